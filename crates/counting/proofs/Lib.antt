@@ -1,0 +1,7 @@
+pub mod Lanes
+pub mod Filling
+pub mod Accepted
+pub mod Recorded
+pub mod Counts
+pub mod Marks
+pub mod Adders

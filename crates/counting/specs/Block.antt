@@ -1,0 +1,23 @@
+-- A block: its size, its bits and its bin.
+use Prim.Native.Nat.{ℕ, _+_, _-_, _*_, _/_, _%_, _^_}
+use mathlib.Core.Bool.{Bool, false, cond}
+use mathlib.Core.List.{List, [], _∷_}
+use lib.Dec.{leb, eqb}
+use lib.ListN.{getD}
+
+-- B, the block size in bits: a multiple of 8 from 8 to 4,096
+unfoldable pub validSize : ℕ → Bool
+validSize B = cond (eqb (B % 8) 0) (cond (leb 8 B) (leb B 4096) false) false
+
+-- bit j of a number, bit 0 being least
+abbrev pub bitAt : ℕ → ℕ → ℕ
+bitAt w j = w / 2 ^ j % 2
+
+-- bit b of a block: bit 7 − (b mod 8) of its byte floor(b / 8) (`bit_value_in_block`)
+unfoldable pub blockBit : List ℕ → ℕ → ℕ
+blockBit block b = bitAt (getD block (b / 8) 0) (7 - b % 8)
+
+-- the bin of a block whose bit b is `bit b`: the sum of 2 ^ i over the i whose bits[i] is 1 (`bits_block_eval`)
+unfoldable pub binOf : (ℕ → ℕ) → List ℕ → ℕ
+binOf bit [] = 0
+binOf bit (b ∷ bs) = bit b + 2 * binOf bit bs

@@ -1,0 +1,8 @@
+-- What the counting crate means: a block and its bin, a sample and its counts, the plain recording, the words and the calls that fill them.
+pub mod Block
+pub mod Sample
+pub mod Recording
+pub mod Words
+pub mod Sampling
+pub mod Recorded
+pub mod Rows
