@@ -1,0 +1,4 @@
+pub mod Halves
+pub mod Units
+pub mod Root
+pub mod Score
