@@ -1,0 +1,45 @@
+-- `samples::count_all` is safe and ends: what is left falls.
+use borrow.Author.Needs.{needs}
+use Rattle.counting_cases.proofs.samples.count_all.Statement.{statement}
+use Rattle.counting_cases.proofs.samples.count_all.Tie as tie
+
+abbrev Inv-loop : tie.InvT-loop
+Inv-loop text at words stride n from₀ left₀ from left = Unit
+
+abbrev μ-loop : tie.MeasureT-loop
+μ-loop text at words stride n from₀ left₀ from left = left
+
+number-requires : tie.Need-number-requires Inv-loop μ-loop
+number-requires c κs = search needs
+
+loop-holds : tie.Need-loop-holds Inv-loop μ-loop
+loop-holds c = search needs
+
+count-one-requires : tie.Need-count-one-requires Inv-loop μ-loop
+count-one-requires c κs = search needs
+
+sub-left : tie.Need-sub-left Inv-loop μ-loop
+sub-left c = search needs
+
+loop-less : tie.Need-loop-less Inv-loop μ-loop
+loop-less c = search needs
+
+loop-again : tie.Need-loop-again Inv-loop μ-loop
+loop-again c = search needs
+
+returns : tie.Need-returns Inv-loop μ-loop
+returns c = search needs
+
+pub count-all-spec : {M : Type 1} → statement M
+count-all-spec =
+    tie.close
+    (tie.spec
+    Inv-loop
+    μ-loop
+    number-requires
+    loop-holds
+    count-one-requires
+    sub-left
+    loop-less
+    loop-again
+    returns)

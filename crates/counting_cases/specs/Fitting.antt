@@ -1,0 +1,8 @@
+-- What the cases are tested for before a helper of the counting crate is called.
+use Prim.Native.Nat.{ℕ, _/_, _<_}
+use mathlib.Core.List.{List}
+use lib.ListN.{length, getD}
+
+-- each of the bits lies in a block of `size` bytes
+abbrev pub InBlock : List ℕ → ℕ → Type 0
+InBlock bits size = (i : ℕ) → i < length bits → getD bits i 0 / 8 < size

@@ -1,0 +1,192 @@
+// Cases of samplers: B and the number of lent words; the number of pieces, for each its length and its bytes; where start is not refused, the number of
+// subsets, for each its width and its bits.
+// Answer: a line with start's refusal and, for each feed, its refusal and the bytes taken after it. Where start is not refused: a line with n; a line for
+// each row, as far as it holds blocks below n; a line for each subset with the counts of its bins and, once more, of its all-ones bin.
+ghost use Prim.Native.Nat.{_≤_};
+ghost use lib.ListN.{length};
+ghost use Rattle.counting.specs.Rows.{RowsIn, BlocksIn};
+use crate::fitting::blocks_in;
+use crate::fitting::rows_in;
+use cases::feeding::dirty;
+use cases::feeding::record;
+use cases::printing::end_line;
+use cases::printing::print;
+use cases::reading::at_most;
+use cases::reading::number;
+use cases::reading::numbers;
+use counting::rows::multi_eval;
+use counting::rows::multi_eval_neg;
+
+// The number of cases, then the cases.
+pub fn replay(text: &[u8], at: usize) {
+    let cases = number(text, at);
+    let mut from = cases.at;
+    let mut left = cases.value;
+    while left > 0 {
+        from = replay_one(text, from);
+        left -= 1;
+    }
+}
+
+fn replay_one(text: &[u8], at: usize) -> usize {
+    let mut words = dirty();
+    let size = number(text, at);
+    let lent = number(text, size.at);
+    let count = at_most(lent.value, 8192);
+    replay_with(
+        text,
+        lent.at,
+        at_most(size.value, 1000000),
+        &mut words[..count],
+    )
+}
+
+fn replay_with(text: &[u8], at: usize, block_size: usize, words: &mut [u64]) -> usize {
+    let recorded = record(text, at, block_size, words);
+    if recorded.refusal != 0 {
+        return recorded.at;
+    }
+    let stride = row_words(words.len(), block_size);
+    let n = whole_blocks(recorded.sampler.taken, block_size);
+    print(n as u64);
+    end_line();
+    print_rows(words, block_size, stride, n);
+    count_all(text, recorded.at, words, stride, n)
+}
+
+// The words of a row; 0 where there is no such row.
+fn row_words(words: usize, block_size: usize) -> usize {
+    if block_size == 0 {
+        0
+    } else {
+        words / block_size
+    }
+}
+
+fn whole_blocks(taken: usize, block_size: usize) -> usize {
+    if block_size < 8 {
+        0
+    } else {
+        taken / (block_size / 8)
+    }
+}
+
+// Each of the first `rows` rows, as far as it holds n blocks.
+fn print_rows(words: &[u64], rows: usize, stride: usize, n: usize) {
+    let mut from = 0;
+    let mut left = rows;
+    while left > 0 {
+        print_row(words, from, n);
+        from = next_row(words, from, stride);
+        left -= 1;
+    }
+}
+
+// The place of the next row, or the end of the words.
+fn next_row(words: &[u64], from: usize, stride: usize) -> usize
+    requires { ⌜ from ≤ length (now words) ⌝ }
+    ensures { λ r. ⌜ r ≤ length (now (words .entry)) ⌝ }
+{
+    if stride < words.len() - from {
+        from + stride
+    } else {
+        words.len()
+    }
+}
+
+// The words from a place on that hold n blocks.
+fn print_row(words: &[u64], from: usize, n: usize) {
+    let mut i = from;
+    let mut left = n;
+    while i < words.len() {
+        if left == 0 {
+            break;
+        }
+        print(lowest(words[i], left));
+        left = beyond(left);
+        i += 1;
+    }
+    end_line();
+}
+
+// The lowest `lanes` bits of a word, which has 64.
+fn lowest(word: u64, lanes: usize) -> u64 {
+    if lanes == 0 {
+        return 0;
+    }
+    if lanes >= 64 {
+        return word;
+    }
+    word & (18446744073709551615 >> (64 - lanes))
+}
+
+fn beyond(left: usize) -> usize {
+    if left < 64 { 0 } else { left - 64 }
+}
+
+// The number of subsets, then the subsets.
+fn count_all(text: &[u8], at: usize, words: &[u64], stride: usize, n: usize) -> usize {
+    let subsets = number(text, at);
+    let mut from = subsets.at;
+    let mut left = subsets.value;
+    while left > 0 {
+        from = count_one(text, from, words, stride, n);
+        left -= 1;
+    }
+    from
+}
+
+fn count_one(text: &[u8], at: usize, words: &[u64], stride: usize, n: usize) -> usize {
+    let mut bits = [0u32; 20];
+    let width = number(text, at);
+    let k = at_most(width.value, 20);
+    count_subset(text, width.at, &mut bits[..k], words, stride, n)
+}
+
+// Reads the bits and counts their bins.
+fn count_subset(
+    text: &[u8],
+    at: usize,
+    bits: &mut [u32],
+    words: &[u64],
+    stride: usize,
+    n: usize,
+) -> usize
+    requires { ⌜ length (now bits) ≤ 20 ⌝ }
+{
+    let after = numbers(text, at, bits);
+    print_counts(bits, words, stride, n);
+    after
+}
+
+// Prints 99999999 alone where the rows do not hold the bits or the blocks.
+fn print_counts(bits: &[u32], words: &[u64], stride: usize, n: usize)
+    requires { ⌜ length (now bits) ≤ 20 ⌝ }
+{
+    if !rows_in(bits, words, stride) {
+        print(99999999);
+        end_line();
+        return;
+    }
+    if !blocks_in(stride, n) {
+        print(99999999);
+        end_line();
+        return;
+    }
+    print_bins(bits, words, stride, n);
+    print(multi_eval(bits, words, stride, n) as u64);
+    end_line();
+}
+
+fn print_bins(bits: &[u32], words: &[u64], stride: usize, n: usize)
+    requires { ⌜ length (now bits) ≤ 20 ⌝ }
+    requires { ⌜ RowsIn (now words) stride (now bits) ⌝ }
+    requires { ⌜ BlocksIn stride n ⌝ }
+{
+    let bins: u32 = 1 << bits.len() as u32;
+    let mut v: u32 = 0;
+    while v < bins {
+        print(multi_eval_neg(bits, words, stride, n, v) as u64);
+        v += 1;
+    }
+}

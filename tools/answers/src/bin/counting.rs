@@ -1,0 +1,160 @@
+//! Cases for `crates/counting_cases`: single blocks, and samplers fed a recording in pieces.
+
+use answers::*;
+
+const SIZES: [usize; 5] = [8, 16, 24, 64, 128];
+const COUNTS: [usize; 8] = [0, 1, 63, 64, 65, 127, 128, 129];
+
+/// A sampler's case: the call of start, the pieces fed, the subsets counted.
+struct Case {
+    block_size: usize,
+    words: usize,
+    pieces: Vec<Vec<u8>>,
+    subsets: Vec<Vec<usize>>,
+}
+
+fn main() {
+    let mut draws = Draws::new(1);
+    let mut sheet = Sheet::default();
+    sheet.note("Cases of the counting crate. Made, with their answers, by `tools/answers/run counting REFERENCE`; no answer is our own program's.");
+    sheet.note("Bits and bins of a block: the reference's bit_value_in_block and bits_block_eval.");
+    sheet.note("Rows: its transform_data on the bytes held, each 128-wide word as two of 64, the low half first, up to the word of the last block.");
+    sheet.note("Counts: its multi_eval_neg for every bin, on transform_data and negate, and its multi_eval.");
+    sheet.note("Refusals and bytes held: the rules of start and feed, in a dozen lines of that tool, since the reference takes a recording whole.");
+    sheet.note("Single blocks. Each: the number of bytes and the bytes; the number of bits and the bits.");
+    block_cases(&mut sheet, &mut draws);
+    let mut cases = edge_cases(&mut draws);
+    cases.extend(counted_cases(&mut draws));
+    cases.extend(long_cases(&mut draws));
+    sheet.note("Samplers. Each: B and the number of lent words; the number of pieces, and for each its length and its bytes;");
+    sheet.note("where B is valid, the number of subsets, and for each its width and its bits.");
+    sheet.case([cases.len()]);
+    for case in &cases {
+        write_case(&mut sheet, case);
+    }
+    sheet.save();
+}
+
+fn block_cases(sheet: &mut Sheet, draws: &mut Draws) {
+    let mut cases: Vec<(Vec<u8>, Vec<usize>)> = Vec::new();
+    for byte in [0x00, 0x01, 0x80, 0xA5, 0xFF] {
+        cases.push((vec![byte], (0..8).collect()));
+    }
+    cases.push((vec![0x5A], vec![]));
+    cases.push((vec![0x93], vec![7, 0, 3, 3]));
+    for size in [2, 3, 8, 16, 512] {
+        for k in [1, 2, 8, 16] {
+            cases.push((draws.bytes(size), draws.subset(8 * size, k)));
+        }
+    }
+    cases.push((draws.bytes(3), (4..24).collect()));
+    cases.push((draws.bytes(512), draws.subset(4096, 20)));
+    cases.push((vec![0xFF; 512], (4076..4096).collect()));
+    sheet.case([cases.len()]);
+    for (block, bits) in &cases {
+        sheet.list(block);
+        sheet.list(bits);
+        let values = bits.iter().map(|bit| bit_value_in_block(*bit, block) as usize);
+        sheet.answer(values.chain([bits_block_eval(bits, block)]));
+    }
+}
+
+/// The limits of B, of the words and of capacity.
+fn edge_cases(draws: &mut Draws) -> Vec<Case> {
+    let mut cases = Vec::new();
+    for block_size in [0, 4, 7, 12, 4095, 4104, 65536] {
+        cases.push(Case { block_size, words: 64, pieces: vec![], subsets: vec![] });
+    }
+    // After a refused start the sampler is none of these words.
+    cases.push(Case { block_size: 20, words: 64, pieces: vec![vec![], vec![1]], subsets: vec![] });
+    cases.push(Case { block_size: 0, words: 0, pieces: vec![vec![]], subsets: vec![] });
+    // No whole word to a row: only an empty piece fits.
+    for (block_size, words) in [(8, 0), (8, 7), (128, 127)] {
+        cases.push(Case { block_size, words, pieces: vec![vec![], vec![255], vec![]], subsets: vec![vec![0], vec![1, 2]] });
+    }
+    // A byte too many, the last byte that fits, one more, nothing more.
+    for (block_size, words) in [(8, 8), (8, 15), (16, 40), (24, 47), (64, 64)] {
+        let capacity = capacity_bytes(block_size, words);
+        let first = 3 + draws.below(20);
+        let lengths = [first, capacity - first + 1, capacity - first - 1, 2, 1, 1, 0];
+        let pieces = lengths.iter().map(|length| draws.bytes(*length)).collect();
+        cases.push(Case { block_size, words, pieces, subsets: subsets(draws, block_size) });
+    }
+    // The largest block, whose rows are a word each.
+    for (words, bytes) in [(4096, 1030), (4100, 512), (8191, 511)] {
+        let recording = draws.bytes(bytes);
+        let pieces = cut(draws, &recording, 3);
+        cases.push(Case { block_size: 4096, words, pieces, subsets: vec![vec![4095], vec![0, 2047, 2048, 4095]] });
+    }
+    cases
+}
+
+/// Every block size with every number of blocks, over recordings full of ties.
+fn counted_cases(draws: &mut Draws) -> Vec<Case> {
+    let mut cases = Vec::new();
+    for (i, block_size) in SIZES.into_iter().enumerate() {
+        for (j, blocks) in COUNTS.into_iter().enumerate() {
+            let size = block_size / 8;
+            // Some recordings end inside a block, some rows have more words than needed, and words may be left over.
+            let rest = if (i + j) % 3 == 0 { 0 } else { draws.below(size) };
+            let bytes = blocks * size + rest;
+            let stride = bytes.div_ceil(64 * size) + (j % 2) * draws.below(3);
+            let words = stride * block_size + draws.below(block_size);
+            let recording = recording(draws, i + j, bytes);
+            let pieces = pieces(draws, block_size, words, &recording);
+            cases.push(Case { block_size, words, pieces, subsets: subsets(draws, block_size) });
+        }
+    }
+    cases
+}
+
+/// Rows of more words than are counted at once.
+fn long_cases(draws: &mut Draws) -> Vec<Case> {
+    let mut cases = Vec::new();
+    for (kind, blocks) in [(0, 4095), (3, 4096), (2, 4097), (3, 8193)] {
+        let recording = recording(draws, kind, blocks);
+        let pieces = cut(draws, &recording, 3);
+        let words = 8 * blocks.div_ceil(64) + 5;
+        cases.push(Case { block_size: 8, words, pieces, subsets: subsets(draws, 8) });
+    }
+    cases
+}
+
+fn subsets(draws: &mut Draws, block_size: usize) -> Vec<Vec<usize>> {
+    let mut subsets = vec![vec![0], vec![block_size - 1], vec![0, 1]];
+    for k in [2, 3, 5] {
+        subsets.push(draws.subset(block_size, k));
+    }
+    // Any list of bits can be counted, also one out of order that repeats a bit.
+    subsets.push(vec![5, 2, 5]);
+    if block_size == 24 {
+        subsets.push(draws.subset(block_size, 9));
+    }
+    subsets
+}
+
+fn write_case(sheet: &mut Sheet, case: &Case) {
+    let held = write_recording(sheet, case.block_size, case.words, &case.pieces);
+    if !valid(case.block_size) {
+        return;
+    }
+    sheet.case([case.subsets.len()]);
+    for subset in &case.subsets {
+        sheet.list(subset);
+    }
+    answer_counts(sheet, case, &held);
+}
+
+fn answer_counts(sheet: &mut Sheet, case: &Case, held: &[u8]) {
+    let rows = transform_data(held, case.block_size);
+    let negated = negate(&rows);
+    let n = rows.num_of_blocks();
+    sheet.answer([n]);
+    for bit in 0..case.block_size {
+        sheet.answer((0..n.div_ceil(64)).map(|i| rows.word(bit, i)));
+    }
+    for bits in &case.subsets {
+        let bins = (0..1 << bits.len()).map(|bin| multi_eval_neg(bits, &rows, &negated, bin));
+        sheet.answer(bins.chain([multi_eval(bits, &rows)]));
+    }
+}

@@ -1,0 +1,292 @@
+//! Whole searches, direct and layered, over recordings full of ties.
+
+use crate::binomial;
+use answers::*;
+/// A recording, and the searches made after it.
+struct Case {
+    block_size: usize,
+    words: usize,
+    pieces: Vec<Vec<u8>>,
+    searches: Vec<Search>,
+}
+
+/// The width, the lengths of the buffers and stores, and the sampler's three fields where it is not the one last returned.
+#[derive(Clone)]
+struct Search {
+    k: usize,
+    bins: usize,
+    order: usize,
+    first: usize,
+    second: usize,
+    sampler: Option<Sampler>,
+}
+
+#[derive(Clone, Copy)]
+struct Sampler {
+    block_size: usize,
+    words: usize,
+    taken: usize,
+}
+
+pub fn write(sheet: &mut Sheet, draws: &mut Draws) {
+    let mut cases = examples();
+    cases.extend(refused(draws));
+    cases.extend(other_samplers(draws));
+    cases.extend(plain());
+    cases.extend(with_ties(draws));
+    cases.extend(tied_divisions(draws));
+    cases.extend(long(draws));
+    sheet.note("Searches: the reference's bottomup on the bytes held, with threads = 1 for the direct and 0 for the layered search; the winner's counts by its evaluate_histogram.");
+    sheet.note("Refusals, and the entries W that a store needs, by the rules in that tool.");
+    sheet.note("Each: B and the number of lent words; the number of pieces, and for each its length and its bytes; the number of searches, and for each");
+    sheet.note("k, the lengths of bin buffer, order buffer and both stores, W (0 where the layered search is refused), and 0, or 1 with another sampler's B, words and T.");
+    sheet.note("Answer: a line for the calls of start and feed; for each search, first direct, then layered: a line with refusal, B, width, 20 bits, division and the");
+    sheet.note("pattern of z; a line with the counts, one with the order, and one with how many other entries of each buffer (and store, past W) are no longer as lent.");
+    sheet.case([cases.len()]);
+    for case in &cases {
+        write_case(sheet, case);
+    }
+}
+
+/// W: the entries of a store for the layered search of width k.
+fn store_entries(block_size: usize, k: usize) -> u128 {
+    (1..=1.max(k - 1)).map(|d| binomial(block_size, d).saturating_mul(1 << d)).max().unwrap()
+}
+
+/// A search with buffers and stores of just the entries needed, and `more` each.
+fn search(block_size: usize, k: usize, more: usize) -> Search {
+    let m = 1 << k;
+    let store = store_entries(block_size, k) as usize;
+    Search { k, bins: m + more, order: m + more, first: store + more, second: store + more, sampler: None }
+}
+
+/// The searches of document 01's examples.
+fn examples() -> Vec<Case> {
+    let mut cases = Vec::new();
+    for (k, recording) in [(1, vec![0x80; 4]), (1, vec![0xFF, 0x00]), (3, vec![]), (2, vec![0x00, 0x00, 0xFF, 0xFF])] {
+        cases.push(Case { block_size: 8, words: 8, pieces: vec![recording], searches: vec![search(8, k, 1)] });
+    }
+    cases
+}
+
+/// Each refusal alone, and pairs of faults of which the earlier is answered.
+fn refused(draws: &mut Draws) -> Vec<Case> {
+    let mut cases = Vec::new();
+    let held = vec![draws.bytes(21), draws.bytes(8)];
+    let good = search(8, 2, 1);
+    // A sampler of B = 8 that was lent 17 words: 128 bytes at most.
+    let returned = Sampler { block_size: 8, words: 17, taken: 29 };
+    let mut bad = Vec::new();
+    for block_size in [0, 4, 12, 4104, 1 << 32] {
+        bad.push(Sampler { block_size, ..returned });
+    }
+    for words in [0, 16, 18, 1 << 32] {
+        bad.push(Sampler { words, ..returned });
+    }
+    for taken in [129, 1 << 24, usize::MAX] {
+        bad.push(Sampler { taken, ..returned });
+    }
+    let mut searches: Vec<Search> = bad.iter().map(|sampler| Search { sampler: Some(*sampler), ..good.clone() }).collect();
+    // 4 before 2, 3, 6 and 7.
+    for (k, bins, store) in [(0, 5, 16), (21, 5, 16), (9, 600, 5000), (3, 8, 1), (3, 7, 1000), (3, 7, 1)] {
+        searches.push(Search { k, bins, order: bins, first: store, second: store, sampler: Some(bad[6]) });
+    }
+    // 2 alone, and before 6 and 7; a width above both limits is refused with 2.
+    for (k, bins, store) in [(0, 5, 16), (21, 300, 5000), (usize::MAX, 300, 5000), (0, 0, 0), (21, 0, 0)] {
+        searches.push(Search { k, bins, order: bins, first: store, second: store, sampler: None });
+    }
+    // 3 alone, and before 6 and 7.
+    for (k, bins, store) in [(9, 600, 5000), (20, 600, 5000), (9, 600, 100), (9, 511, 5000), (9, 0, 0)] {
+        searches.push(Search { k, bins, order: bins, first: store, second: store, sampler: None });
+    }
+    // 6: either store, by one entry or by all; then before 7.
+    for (first, second) in [(1792, 1792), (1791, 1792), (1792, 1791), (1791, 1791), (0, 1792), (1792, 0)] {
+        searches.push(Search { k: 8, bins: 257, order: 257, first, second, sampler: None });
+    }
+    for (bins, order) in [(255, 256), (256, 255)] {
+        searches.push(Search { k: 8, bins, order, first: 1791, second: 1792, sampler: None });
+    }
+    // 7: either buffer, by one entry or by all.
+    for (bins, order) in [(255, 256), (256, 255), (255, 255), (0, 256), (256, 0), (256, 256)] {
+        searches.push(Search { k: 8, bins, order, first: 1793, second: 1793, sampler: None });
+    }
+    for (bins, order) in [(1, 2), (2, 1), (0, 0)] {
+        searches.push(Search { k: 1, bins, order, first: 17, second: 17, sampler: None });
+    }
+    searches.push(good);
+    cases.push(Case { block_size: 8, words: 17, pieces: held, searches });
+    // After a refused start.
+    cases.push(Case { block_size: 12, words: 24, pieces: vec![vec![1]], searches: vec![search(8, 1, 1), Search { k: 0, ..search(8, 1, 0) }] });
+    // W above 2^32, where buffers that are too short keep the direct search from starting.
+    for (block_size, k) in [(128, 6), (512, 5), (4096, 4), (4096, 20)] {
+        let short = Search { k, bins: (1 << k.min(8)) - 1, order: 300, first: 5000, second: 5000, sampler: None };
+        cases.push(Case { block_size, words: block_size, pieces: vec![draws.bytes(3)], searches: vec![short] });
+    }
+    cases
+}
+
+/// Samplers that say fewer or more bytes than were fed, within capacity: blocks that were not fed are all zeros.
+fn other_samplers(draws: &mut Draws) -> Vec<Case> {
+    let mut cases = Vec::new();
+    for (block_size, words, fed) in [(8, 16, 100), (16, 35, 150), (24, 24, 60)] {
+        let pieces = vec![recording(draws, 5, fed)];
+        let mut searches = Vec::new();
+        for taken in [0, 1, fed / 2, fed - 1, fed + 1, capacity_bytes(block_size, words)] {
+            let sampler = Some(Sampler { block_size, words, taken });
+            searches.push(Search { sampler, ..search(block_size, 2, 1) });
+        }
+        cases.push(Case { block_size, words, pieces, searches });
+    }
+    cases
+}
+
+/// Recordings of zeros, of ones, and of both with the final byte missing.
+fn plain() -> Vec<Case> {
+    let mut cases = Vec::new();
+    for block_size in [8, 16, 24, 64, 128] {
+        let size = block_size / 8;
+        for recording in [vec![0x00; 9 * size], vec![0xFF; 9 * size], [vec![0x00; 5 * size], vec![0xFF; 5 * size - 1]].concat()] {
+            let searches = [1, 2].map(|k| search(block_size, k, 1)).to_vec();
+            cases.push(Case { block_size, words: block_size, pieces: vec![recording], searches });
+        }
+    }
+    cases
+}
+
+/// Every block size with recordings of every kind.
+fn with_ties(draws: &mut Draws) -> Vec<Case> {
+    let mut cases = Vec::new();
+    for (i, block_size) in [8, 16, 24, 64, 128].into_iter().enumerate() {
+        for (j, blocks) in [0, 1, 2, 3, 5, 16, 63, 64, 65, 127, 128, 129].into_iter().enumerate() {
+            let size = block_size / 8;
+            // Long blocks at the smaller numbers only, to save room here; some recordings end inside a block.
+            if size * blocks > 700 {
+                continue;
+            }
+            let rest = if (i + j) % 3 == 0 { 0 } else { draws.below(size) };
+            let bytes = blocks * size + rest;
+            let recording = recording(draws, 2 * i + j, bytes);
+            let stride = bytes.div_ceil(64 * size) + (j % 2) * draws.below(2);
+            let words = stride * block_size + draws.below(block_size);
+            let pieces = pieces(draws, block_size, words, &recording);
+            let searches = widths(block_size, j).into_iter().map(|k| search(block_size, k, (j + k) % 3)).collect();
+            cases.push(Case { block_size, words, pieces, searches });
+        }
+    }
+    cases
+}
+
+/// The widths searched: fewer where there are many subsets.
+fn widths(block_size: usize, j: usize) -> Vec<usize> {
+    match block_size {
+        8 => if j % 4 == 1 { (1..=8).collect() } else { (1..=4).collect() },
+        16 => (1..=4).collect(),
+        24 => if j % 4 == 2 { (1..=4).collect() } else { (1..=3).collect() },
+        _ => if j == 4 { (1..=3).collect() } else { (1..=2).collect() },
+    }
+}
+
+/// Recordings whose winner has its z at a later division too: the first is to be answered.
+fn tied_divisions(draws: &mut Draws) -> Vec<Case> {
+    let mut cases = Vec::new();
+    while cases.len() < 8 {
+        let k = 2 + cases.len() / 4;
+        let n = 4 + draws.below(13);
+        let recording = draws.bytes(n);
+        let finding = bottomup(&recording, 8, k, 1).unwrap();
+        let bins = evaluate_histogram(&finding, &recording).bins;
+        let size_at = |i: usize| {
+            let count = finding.order[..i].iter().map(|bin| bins[*bin]).sum();
+            z_score(n, count, i as f64 / bins.len() as f64).abs()
+        };
+        if (finding.division + 1..bins.len()).any(|i| size_at(i) == finding.z) {
+            cases.push(Case { block_size: 8, words: 8, pieces: vec![recording], searches: vec![search(8, k, 1)] });
+        }
+    }
+    cases
+}
+
+/// Rows of more words than are counted at once, and a wide search of a long block.
+fn long(draws: &mut Draws) -> Vec<Case> {
+    let mut cases = Vec::new();
+    for (kind, blocks) in [(0, 4095), (3, 4097)] {
+        let recording = recording(draws, kind, blocks);
+        let pieces = cut(draws, &recording, 3);
+        cases.push(Case { block_size: 8, words: 8 * blocks.div_ceil(64) + 5, pieces, searches: vec![search(8, 1, 1), search(8, 3, 1)] });
+    }
+    let recording = recording(draws, 5, 8 * 70);
+    cases.push(Case { block_size: 64, words: 128, pieces: vec![recording], searches: vec![search(64, 4, 1)] });
+    cases
+}
+
+fn write_case(sheet: &mut Sheet, case: &Case) {
+    let held = write_recording(sheet, case.block_size, case.words, &case.pieces);
+    // After a refused start every field of the sampler is 0.
+    let returned = if valid(case.block_size) {
+        Sampler { block_size: case.block_size, words: case.words, taken: held.len() }
+    } else {
+        Sampler { block_size: 0, words: 0, taken: 0 }
+    };
+    sheet.case([case.searches.len()]);
+    for search in &case.searches {
+        let sampler = search.sampler.unwrap_or(returned);
+        // What the sampler says was taken; words that were not fed are zero.
+        let taken = sampler.taken.min(1 << 16);
+        let mut seen = held.clone();
+        seen.resize(taken, 0);
+        let direct = refusal(case, search, sampler, false);
+        let layered = refusal(case, search, sampler, true);
+        let free = if layered == 0 { store_entries(sampler.block_size, search.k) } else { 0 };
+        let given = [sampler.block_size, sampler.words, sampler.taken];
+        let lengths = [search.k, search.bins, search.order, search.first, search.second, free as usize];
+        sheet.case(lengths.into_iter().chain(match search.sampler {
+            None => vec![0],
+            Some(_) => [vec![1], given.to_vec()].concat(),
+        }));
+        answer(sheet, search, sampler, &seen, direct, 1);
+        answer(sheet, search, sampler, &seen, layered, 0);
+    }
+}
+
+/// The first condition that applies, in the order of the searches' refusals; 0 where none does.
+fn refusal(case: &Case, search: &Search, sampler: Sampler, layered: bool) -> usize {
+    let (block_size, k) = (sampler.block_size, search.k);
+    if !valid(block_size) || sampler.words != case.words || sampler.taken > capacity_bytes(block_size, case.words) {
+        return 4;
+    }
+    if k == 0 || k > 20 {
+        return 2;
+    }
+    if k > block_size {
+        return 3;
+    }
+    let store = store_entries(block_size, k);
+    if layered && (store > 1 << 32 || (search.first as u128) < store || (search.second as u128) < store) {
+        return 6;
+    }
+    if search.bins < 1 << k || search.order < 1 << k {
+        return 7;
+    }
+    0
+}
+
+fn answer(sheet: &mut Sheet, search: &Search, sampler: Sampler, seen: &[u8], refusal: usize, threads: usize) {
+    let unchanged = if threads == 0 { vec![0; 4] } else { vec![0; 2] };
+    if refusal != 0 {
+        // Every field 0, no counts, no order, and all entries as lent.
+        sheet.answer([refusal].into_iter().chain([0; 24]));
+        sheet.answer(Vec::<usize>::new());
+        sheet.answer(Vec::<usize>::new());
+        sheet.answer(unchanged);
+        return;
+    }
+    let finding = bottomup(seen, sampler.block_size, search.k, threads).unwrap();
+    let mut line = vec![0, finding.block_size as u64, finding.bits.len() as u64];
+    line.extend(finding.bits.iter().map(|bit| *bit as u64));
+    line.resize(23, 0);
+    line.extend([finding.division as u64, finding.z.to_bits()]);
+    sheet.answer(line);
+    sheet.answer(evaluate_histogram(&finding, seen).bins);
+    sheet.answer(finding.order);
+    sheet.answer(unchanged);
+}

@@ -1,0 +1,74 @@
+//! Recordings that a sampler is fed in pieces, and the rules of start and feed, since the reference takes a recording whole.
+
+use crate::{Draws, Sheet};
+
+pub fn valid(block_size: usize) -> bool {
+    block_size % 8 == 0 && (8..=4096).contains(&block_size)
+}
+
+/// For a valid block size.
+pub fn capacity_bytes(block_size: usize, words: usize) -> usize {
+    (64 * (words / block_size)).min(16_777_216) * (block_size / 8)
+}
+
+/// Bytes of a kind: two values, a value alone, drawn, a short period, ones with a single zero, few values.
+pub fn recording(draws: &mut Draws, kind: usize, bytes: usize) -> Vec<u8> {
+    let period = draws.bytes(7);
+    (0..bytes)
+        .map(|t| match kind % 6 {
+            0 => [0x0F, 0xF0][draws.below(2)],
+            1 => 0xA5,
+            2 => draws.next() as u8,
+            3 => [0, 9, 0, 128, 9][t % 5],
+            4 => if t == bytes / 2 { 0x7F } else { 0xFF },
+            _ => period[draws.below(3)],
+        })
+        .collect()
+}
+
+/// The recording in pieces, cut at drawn places.
+pub fn cut(draws: &mut Draws, recording: &[u8], parts: usize) -> Vec<Vec<u8>> {
+    let mut cuts: Vec<usize> = (1..parts).map(|_| draws.below(recording.len() + 1)).collect();
+    cuts.push(0);
+    cuts.push(recording.len());
+    cuts.sort();
+    cuts.windows(2).map(|ends| recording[ends[0]..ends[1]].to_vec()).collect()
+}
+
+/// The recording in pieces, with an empty one among them, and one that is a byte too long where it comes, unless that takes too much room here.
+pub fn pieces(draws: &mut Draws, block_size: usize, words: usize, recording: &[u8]) -> Vec<Vec<u8>> {
+    let parts = 2 + draws.below(5);
+    let mut pieces = cut(draws, recording, parts);
+    pieces.insert(draws.below(parts), vec![]);
+    let place = 1 + draws.below(parts);
+    let held: usize = pieces[..place].iter().map(Vec::len).sum();
+    let long = capacity_bytes(block_size, words) - held + 1;
+    if long <= 500 {
+        pieces.insert(place, draws.bytes(long));
+    }
+    pieces
+}
+
+/// The case: B, the number of lent words, the number of pieces, and each piece. The answer: start's refusal, which is 1 where B is no multiple of 8 from
+/// 8 to 4,096; for each feed its refusal, 4 after such a start and 5 where the bytes held would pass capacity, and the bytes held after it.
+/// A refused feed adds nothing. Returns the bytes held in the end.
+pub fn write_recording(sheet: &mut Sheet, block_size: usize, words: usize, pieces: &[Vec<u8>]) -> Vec<u8> {
+    sheet.case([block_size, words]);
+    sheet.case([pieces.len()]);
+    let mut held = Vec::new();
+    let mut line = vec![if valid(block_size) { 0 } else { 1 }];
+    for piece in pieces {
+        sheet.list(piece);
+        if !valid(block_size) {
+            line.push(4);
+        } else if held.len() + piece.len() > capacity_bytes(block_size, words) {
+            line.push(5);
+        } else {
+            held.extend(piece);
+            line.push(0);
+        }
+        line.push(held.len());
+    }
+    sheet.answer(line);
+    held
+}
