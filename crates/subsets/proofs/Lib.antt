@@ -1,0 +1,13 @@
+pub mod Lex
+pub mod Listing
+pub mod Optimal
+pub mod Visiting
+pub mod Choosing
+pub mod Testing
+pub mod Filling
+pub mod Carrying
+pub mod Walking
+pub mod Ranking
+pub mod Placing
+pub mod Refusing
+pub mod Examples
