@@ -1,0 +1,3 @@
+pub mod Order
+pub mod Peak
+pub mod Ranking

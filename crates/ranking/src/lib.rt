@@ -1,0 +1,3 @@
+// Ranking one subset by its counts: the order of its bins, the division and the score.
+pub mod order;
+pub mod ranking;
