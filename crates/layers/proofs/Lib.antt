@@ -1,0 +1,7 @@
+pub mod Joining
+pub mod Zeros
+pub mod Removing
+pub mod Subtracting
+pub mod Filling
+pub mod Sizing
+pub mod Examples

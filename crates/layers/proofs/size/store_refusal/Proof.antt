@@ -1,0 +1,35 @@
+-- `size::store_refusal` meets its contract: each return has the tests that led there.
+use Rattle.layers.proofs.Sizing.{too-large, first-short, second-short, both-suffice}
+use borrow.Author.Needs.{needs}
+use Rattle.layers.proofs.size.store_refusal.Statement.{statement}
+use Rattle.layers.proofs.size.store_refusal.Tie as tie
+
+store-size-requires : tie.Need-store-size-requires
+store-size-requires c κs = search needs
+
+returns : tie.Need-returns
+returns c =
+    let a = c .before .before .args in
+    let w = c .before .store-size in
+    too-large (a .block-size) (a .k) (a .a) (a .b) (w .result) (w .ensures) (c .if1 .taken)
+
+returns-2 : tie.Need-returns-2
+returns-2 c =
+    let a = c .before .before .before .args in
+    let w = c .before .before .store-size in
+    first-short (a .block-size) (a .k) (a .a) (a .b) (w .result) (w .ensures) (c .before .if1 .left) (c .if2 .taken)
+
+returns-3 : tie.Need-returns-3
+returns-3 c =
+    let a = c .before .before .before .before .args in
+    let w = c .before .before .before .store-size in
+    second-short (a .block-size) (a .k) (a .a) (a .b) (w .result) (w .ensures) (c .before .before .if1 .left) (c .before .if2 .left) (c .if3 .taken)
+
+returns-4 : tie.Need-returns-4
+returns-4 c =
+    let a = c .before .before .before .before .args in
+    let w = c .before .before .before .store-size in
+    both-suffice (a .block-size) (a .k) (a .a) (a .b) (w .result) (w .ensures) (c .before .before .if1 .left) (c .before .if2 .left) (c .if3 .left)
+
+pub store-refusal-spec : {M : Type 1} → statement M
+store-refusal-spec = tie.close (tie.spec store-size-requires returns returns-2 returns-3 returns-4)
