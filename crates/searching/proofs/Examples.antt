@@ -1,0 +1,28 @@
+-- The worked examples, computed.
+use mathlib.Core.Path.{refl}
+use lib.Ieee.{lt, mul, sub, div, ofInt, round, add, neg}
+use Rattle.counting.specs.Block.{binOf, blockBit}
+use Rattle.counting.specs.Recording.{recordedBit}
+use Rattle.counting.specs.Sample.{countIn, listOf, countsOf, total}
+use Rattle.scoring.specs.Halves.{part}
+use Rattle.scoring.specs.Root.{root, rootAt}
+use Rattle.scoring.specs.Units.{isqrt, isqrtFrom}
+use Rattle.scoring.specs.Score.{deviation, zOver, zScore, abs}
+use Rattle.ranking.specs.Order.{before, insertBin, sortBins, orderOf}
+use Rattle.ranking.specs.Peak.{peak}
+use Rattle.ranking.specs.Ranking.{inBinOrder, sizeAt, scoreOf}
+use Rattle.layers.proofs.Examples.{stores-of-eight}
+use Rattle.subsets.proofs.Examples.{ranks-of-eight}
+use Rattle.searching.specs.Finding.{winnerOf}
+use Rattle.searching.specs.Examples.{Examples}
+
+pub examples : Examples
+unfolding winnerOf recordedBit blockBit binOf countIn listOf countsOf total part root rootAt isqrt isqrtFrom deviation zOver zScore abs before insertBin sortBins orderOf peak inBinOrder sizeAt scoreOf lt mul sub div ofInt round add neg
+examples = record {
+  always = record { chosen = refl; ordered = refl; ranked = refl };
+  ties = record { chosen = refl; ordered = refl; ranked = refl };
+  empty = record { chosen = refl; ordered = refl; ranked = refl };
+  together = record { chosen = refl; ordered = refl; ranked = refl };
+  ranks = ranks-of-eight;
+  stores = stores-of-eight;
+}

@@ -1,0 +1,44 @@
+-- A buffer that is filled from the front, one entry a turn.
+use mathlib.Core.Path.{_≡_, sym, ap, _∙_}
+use mathlib.Core.List.{List, [], _∷_, _++_, append-assoc}
+use Prim.Native.Nat.{ℕ, suc, _+_, _^_, _≤_, _<_}
+use native.Mathlib.Numerals.{add-one}
+use native.Mathlib.Omega.{arith}
+use lib.ListN.{length, set, take, drop, getD, length-append, length-drop}
+use lib.Seq.{drop-cons, set-at, take-at, drop-at}
+use Rattle.counting.specs.Sample.{listOf, countsOf, countIn}
+use Rattle.counting.proofs.Counts.{length-list}
+use Rattle.ranking.specs.Order.{orderOf}
+use Rattle.ranking.proofs.Totals.{order-length}
+
+pub list-put : (f : ℕ → ℕ) (l : List ℕ) (v : ℕ) → v < length l → set (listOf v f ++ drop v l) v (f v) ≡ listOf (v + 1) f ++ drop (v + 1) l
+unfolding listOf
+list-put f l v h =
+    rw (add-one, drop-cons l v 0)
+    (set-at (listOf v f) (getD l v 0) (drop (suc v) l) (f v) v (length-list v f) ∙ sym (append-assoc (listOf v f) (f v ∷ []) (drop (suc v) l)))
+
+-- a buffer whose first m entries were replaced has its length, these first, and what was past them
+module _ (m : ℕ) (xs l : List ℕ) (size : length xs ≡ m) where
+  pub replaced-length : m ≤ length l → length (xs ++ drop m l) ≡ length l
+  replaced-length h = simp (length-append, length-drop) (omega arith)
+
+  pub replaced-first : take m (xs ++ drop m l) ≡ xs
+  replaced-first = take-at xs (drop m l) m size
+
+  pub replaced-rest : drop m (xs ++ drop m l) ≡ drop m l
+  replaced-rest = drop-at xs (drop m l) m size
+
+pub length-counts : (bit : ℕ → ℕ → ℕ) (n : ℕ) (bits : List ℕ) → length (countsOf bit n bits) ≡ 2 ^ length bits
+unfolding countsOf
+length-counts bit n bits = length-list (2 ^ length bits) (countIn bit n bits)
+
+pub length-order : (bit : ℕ → ℕ → ℕ) (n : ℕ) (bits : List ℕ) → length (orderOf (countsOf bit n bits)) ≡ 2 ^ length bits
+length-order bit n bits = order-length (countsOf bit n bits) ∙ length-counts bit n bits
+
+-- what a candidate of k bits leaves past the 2 ^ k entries of a buffer
+module _ (bit : ℕ → ℕ → ℕ) (n k : ℕ) (bits l l′ : List ℕ) (size : length bits ≡ k) where
+  pub counts-rest : l′ ≡ countsOf bit n bits ++ drop (2 ^ length bits) l → drop (2 ^ k) l′ ≡ drop (2 ^ k) l
+  counts-rest e = rw (← size) (ap (drop (2 ^ length bits)) e ∙ replaced-rest (2 ^ length bits) (countsOf bit n bits) l (length-counts bit n bits))
+
+  pub order-rest : l′ ≡ orderOf (countsOf bit n bits) ++ drop (2 ^ length bits) l → drop (2 ^ k) l′ ≡ drop (2 ^ k) l
+  order-rest e = rw (← size) (ap (drop (2 ^ length bits)) e ∙ replaced-rest (2 ^ length bits) (orderOf (countsOf bit n bits)) l (length-order bit n bits))

@@ -1,0 +1,7 @@
+-- Laws that the functions' proofs cite, and the claim.
+pub mod Filled
+pub mod Walking
+pub mod Climbing
+pub mod Refusing
+pub mod Claiming
+pub mod Examples

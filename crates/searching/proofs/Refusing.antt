@@ -1,0 +1,123 @@
+-- The refusals of a search: what a refusal of 0 tells, and what is promised where there is one and where there is none.
+use mathlib.Core.Path.{_≡_, refl, ap}
+use mathlib.Core.Bool.{Bool, true, false, cond}
+use mathlib.Core.List.{List}
+use Prim.Native.Nat.{ℕ, zero, suc, _/_, _^_, _≤_, _<_}
+use native.Mathlib.Nat.{le-trans, min-le-left, min-le-right, div-mul-le-self, mul-comm}
+use native.Mathlib.Omega.{arith}
+use lib.Dec.{leb}
+use borrow.Author.Tests.{leb-true}
+use Rattle.counting.specs.Recording.{stride}
+use Rattle.counting.specs.Sampling.{samplerRefusal}
+use Rattle.counting.specs.declared.sampling.Sampler.{Sampler}
+use Rattle.counting.proofs.Accepted.{Usable, usable, valid-facts, room-blocks}
+use Rattle.layers.specs.Size.{storeRefusal}
+use Rattle.layers.proofs.Sizing.{stores-suffice}
+use Rattle.subsets.specs.Bits.{validWidth}
+use Rattle.subsets.proofs.Refusing.{width-bounds}
+use Rattle.searching.specs.Finding.{refusedWith}
+use Rattle.searching.specs.Refusal.{orElse, widthRefusal, bufferRefusal, searchRefusal, directRefusal, layeredRefusal}
+use Rattle.searching.specs.Pass.{Searchable, Suffice, Won}
+use Rattle.searching.specs.Search.{Search, sampleOf, blocksOf}
+use Rattle.searching.specs.declared.finding.Finding.{Finding}
+use Rattle.searching.specs.declared.finding.Searched.{Searched}
+
+-- ---- the first that applies
+
+pub or-first : (r next : ℕ) → (r ≡ 0 → ⊥) → r ≡ orElse r next
+or-first zero next h = absurd (h refl)
+or-first (suc r) next h = refl
+
+pub or-next : (r next : ℕ) → r ≡ 0 → next ≡ orElse r next
+or-next r next e = rw e
+
+pub neither : (r next : ℕ) → orElse r next ≡ 0 → (r ≡ 0) × (next ≡ 0)
+neither zero next e = (refl, e)
+neither (suc r) next e = absurd (omega arith)
+
+-- a test that gives a refusal m was passed
+pub passed : (t : Bool) (x m : ℕ) → 0 < m → cond t x m ≡ 0 → (t ≡ true) × (x ≡ 0)
+passed true x m pos e = (refl, e)
+passed false x m pos e = absurd (omega arith)
+
+pub record Width (B k : ℕ) : Type 0 where
+  pub some : 1 ≤ k
+  pub width : k ≤ 20
+  pub chosen : k ≤ B
+
+pub width-free : (B k : ℕ) → widthRefusal B k ≡ 0 → Width B k
+unfolding widthRefusal
+width-free B k e =
+    let p = passed (validWidth k) (cond (leb k B) 0 3) 2 (omega arith) e in
+    let q = passed (leb k B) 0 3 (omega arith) (p .1) in
+    let w = width-bounds k (p .0) in
+    record { some = w .0; width = w .1; chosen = leb-true k B (q .0) }
+
+pub buffer-free : (k a b : ℕ) → bufferRefusal k a b ≡ 0 → (2 ^ k ≤ a) × (2 ^ k ≤ b)
+unfolding bufferRefusal
+buffer-free k a b e =
+    let p = passed (leb (2 ^ k) a) (cond (leb (2 ^ k) b) 0 7) 7 (omega arith) e in
+    let q = passed (leb (2 ^ k) b) 0 7 (omega arith) (p .1) in
+    (leb-true (2 ^ k) a (p .0), leb-true (2 ^ k) b (q .0))
+
+-- ---- what can be searched
+
+-- the sampler has these words, and the width fits its block
+pub record SearchFree (s : Sampler) (words k : ℕ) : Type 0 where
+  pub usable : Usable s words
+  pub width : Width (s .«block_size») k
+
+pub search-free : (s : Sampler) (words k : ℕ) → searchRefusal s words k ≡ 0 → SearchFree s words k
+unfolding searchRefusal
+search-free s words k e =
+    let p = neither (samplerRefusal s words) _ e in
+    record { usable = usable s words (p .0); width = width-free (s .«block_size») k (p .1) }
+
+pub searchable : (s : Sampler) (words k : ℕ) → SearchFree s words k → Searchable words (stride (s .«block_size») words) (blocksOf s) (s .«block_size») k
+searchable s words k f =
+    let B = s .«block_size» in
+    let v = valid-facts B (f .usable .valid) in
+    let blocks = room-blocks B words (s .taken) v (f .usable .within) in
+    record {
+      some = f .width .some;
+      width = f .width .width;
+      chosen = f .width .chosen;
+      size = v .high;
+      rows = omega (arith, div-mul-le-self words B, mul-comm B (words / B));
+      blocks = (le-trans blocks (min-le-left _ _), le-trans blocks (min-le-right _ _));
+    }
+
+pub record DirectFree (s : Sampler) (words k bins order : ℕ) : Type 0 where
+  pub search : SearchFree s words k
+  pub room : (2 ^ k ≤ bins) × (2 ^ k ≤ order)
+
+pub direct-free : (s : Sampler) (words k bins order : ℕ) → directRefusal s words k bins order ≡ 0 → DirectFree s words k bins order
+unfolding directRefusal
+direct-free s words k bins order e =
+    let p = neither (searchRefusal s words k) _ e in
+    record { search = search-free s words k (p .0); room = buffer-free k bins order (p .1) }
+
+pub record LayeredFree (s : Sampler) (words k a b bins order : ℕ) : Type 0 where
+  pub search : SearchFree s words k
+  pub stores : Suffice (s .«block_size») k a b
+  pub room : (2 ^ k ≤ bins) × (2 ^ k ≤ order)
+
+pub layered-free : (s : Sampler) (words k a b bins order : ℕ) → layeredRefusal s words k a b bins order ≡ 0 → LayeredFree s words k a b bins order
+unfolding layeredRefusal
+layered-free s words k a b bins order e =
+    let p = neither (searchRefusal s words k) _ e in
+    let q = neither (storeRefusal (s .«block_size») k a b) _ (p .1) in
+    record { search = search-free s words k (p .0); stores = stores-suffice (s .«block_size») k a b (q .0); room = buffer-free k bins order (q .1) }
+
+-- ---- the promise
+
+pub search-refused : (r : ℕ) (s : Sampler) (ws : List ℕ) (k : ℕ) (bins order : List ℕ) (answer : Searched)
+    → (r ≡ 0 → ⊥) → answer ≡ refusedWith r → Search r s ws k bins order answer bins order
+search-refused zero s ws k bins order answer h e = absurd (h refl)
+search-refused (suc r) s ws k bins order answer h e = record { answered = e; counted = refl; ordered = refl }
+
+pub search-found : (r : ℕ) (s : Sampler) (ws : List ℕ) (k : ℕ) (bins order : List ℕ) (f : Finding) (bins′ order′ : List ℕ)
+    → r ≡ 0 → Won (sampleOf s ws) (blocksOf s) (s .«block_size») k bins order f bins′ order′
+    → Search r s ws k bins order (record { refusal = 0; finding = f }) bins′ order′
+search-found r s ws k bins order f bins′ order′ e w =
+    rw e (record { answered = ap (λ (g : Finding). record { refusal = 0; finding = g }) (w .found); counted = w .counted; ordered = w .ordered })

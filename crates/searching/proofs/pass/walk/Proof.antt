@@ -1,0 +1,233 @@
+-- `pass::walk` meets its contract: after each step the best so far beats every subset up to the current one.
+use mathlib.Core.Path.{_≡_, refl, sym, ap, _∙_}
+use mathlib.Core.Bool.{true}
+use Prim.Native.Nat.{ℕ, _-_, _^_, _≤_, _<_}
+use native.Mathlib.Omega.{arith}
+use lib.ListN.{length, take, drop, length-take}
+use Rattle.counting.specs.Words.{storedBit}
+use Rattle.ranking.specs.declared.ranking.Ranking.{Ranking}
+use Rattle.subsets.specs.Choose.{choose}
+use Rattle.subsets.specs.Subsets.{Subset}
+use Rattle.subsets.proofs.Visiting.{run-subset}
+use Rattle.subsets.specs.Rank.{rankOf}
+use Rattle.searching.proofs.Filled.{counts-rest, order-rest}
+use Rattle.searching.proofs.Walking.{Walked, holds, fails, first-front, begun, takes, keeps, ends, falls}
+use Rattle.searching.proofs.pass.walk.Statement.{statement}
+use Rattle.searching.proofs.pass.walk.Tie as tie
+
+abbrev Inv-loop : tie.InvT-loop
+Inv-loop words stride n block-size k layer roots bins₀ order₀ bits₀ best₀ z₀ bins order bits best z =
+    Walked (storedBit stride words) n block-size k bits best z
+    × (length bins ≡ length bins₀) × (drop (2 ^ k) bins ≡ drop (2 ^ k) bins₀)
+    × (length order ≡ length order₀) × (drop (2 ^ k) order ≡ drop (2 ^ k) order₀)
+
+abbrev μ-loop : tie.MeasureT-loop
+μ-loop words stride n block-size k layer roots bins₀ order₀ bits₀ best₀ z₀ bins order bits best z =
+    choose block-size k - rankOf block-size (take k bits)
+
+-- ---- the places: the first subset made, the loop's head, a step made
+
+abbrev start : tie.After-first Inv-loop μ-loop → tie.Start Inv-loop μ-loop
+start d = d .before .before .before .before .before .before
+
+abbrev entry : tie.At-loop Inv-loop μ-loop → tie.After-first Inv-loop μ-loop
+entry d = d .before .before .before .before .before .before .before .before .before
+
+abbrev head : tie.After-successor Inv-loop μ-loop → tie.At-loop Inv-loop μ-loop
+head d = d .before .before
+
+-- the sample that is searched
+abbrev bit : tie.Start Inv-loop μ-loop → ℕ → ℕ → ℕ
+bit s = storedBit (s .args .stride) (s .args .words .now)
+
+-- the first subset
+is-first : (d : tie.After-first Inv-loop μ-loop) → Subset (start d .args .block-size) (start d .args .k) (take (start d .args .k) (d .first .result))
+is-first d =
+    let s = start d in
+    rw (first-front (bit s) (s .args .n) (s .args .block-size) (s .args .k) (s .pre .0 .chosen) (s .pre .0 .width) (d .first .result) (d .first .ensures))
+    (run-subset (s .args .block-size) (s .args .k) (s .pre .0 .chosen))
+
+-- the next
+is-next : (d : tie.After-successor Inv-loop μ-loop) → d .successor .result ≡ true
+    → let s = start (entry (head d)) in Subset (s .args .block-size) (s .args .k) (take (s .args .k) (d .successor .last .0))
+is-next d e = d .successor .ensures .next e .subset
+
+first-requires : tie.Need-first-requires Inv-loop μ-loop
+first-requires c κs = c .before .before .before .before .before .pre .0 .width
+
+array-share-prefix-bits : tie.Need-array-share-prefix-bits Inv-loop μ-loop
+array-share-prefix-bits c = omega (arith, is-first c .size, length-take (start c .args .k) (c .first .result))
+
+slice-aggregate-rank-candidate : tie.Need-slice-aggregate-rank-candidate Inv-loop μ-loop
+slice-aggregate-rank-candidate c = sym (is-first (c .before) .size)
+
+rank-candidate-requires : tie.Need-rank-candidate-requires Inv-loop μ-loop
+rank-candidate-requires c κs =
+    let d = c .before .before .before in
+    let s = start d in
+    rw (is-first d .size) (s .pre .0, (is-first d, (s .pre .1 .0, (s .pre .1 .1 .0, s .pre .1 .1 .1))))
+
+loop-holds : tie.Need-loop-holds Inv-loop μ-loop
+loop-holds c =
+    let d = c .before .before .before .before .before .before .before .before in
+    let s = start d in
+    let a = s .args in
+    let r = c .before .before .before .before .rank-candidate in (
+      begun (bit s) (a .n) (a .block-size) (a .k) (s .pre .0 .chosen) (s .pre .0 .width) (d .first .result) (r .result .z) (d .first .ensures) (ap (λ (q : Ranking). q .z) (r .ensures .0)),
+      refl,
+      refl,
+      refl,
+      refl,
+    )
+
+slice-aggregate-successor : tie.Need-slice-aggregate-successor Inv-loop μ-loop
+slice-aggregate-successor c = sym (c .before .loop .inv .0 .size)
+
+successor-requires : tie.Need-successor-requires Inv-loop μ-loop
+successor-requires c κs =
+    let l = c .before in
+    let s = start (entry l) in
+    let small : s .args .block-size < 4294967296 = omega (arith, s .pre .0 .size) in
+    (small, l .loop .inv .0 .sofar .current)
+
+array-share-prefix-bits-2 : tie.Need-array-share-prefix-bits-2 Inv-loop μ-loop
+array-share-prefix-bits-2 c =
+    let d = c .before .before in
+    omega (arith, is-next d (c .if1 .taken) .size, length-take (start (entry (head d)) .args .k) (d .successor .last .0))
+
+slice-aggregate-rank-candidate-2 : tie.Need-slice-aggregate-rank-candidate-2 Inv-loop μ-loop
+slice-aggregate-rank-candidate-2 c = sym (is-next (c .before .before .before) (c .before .if1 .taken) .size)
+
+rank-candidate-requires-2 : tie.Need-rank-candidate-requires-2 Inv-loop μ-loop
+rank-candidate-requires-2 c κs =
+    let d = c .before .before .before .before .before in
+    let l = head d in
+    let s = start (entry l) in
+    let X = is-next d (c .before .before .before .if1 .taken) in
+    let counted : 2 ^ s .args .k ≤ length (l .loop .bins) = omega (arith, s .pre .1 .1 .0, l .loop .inv .1) in
+    let ordered : 2 ^ s .args .k ≤ length (l .loop .order) = omega (arith, s .pre .1 .1 .0, l .loop .inv .3) in
+    rw (X .size) (s .pre .0, (X, (s .pre .1 .0, ((counted, ordered), s .pre .1 .1 .1))))
+
+-- a turn's step and the ranking of what it came to
+abbrev stepped : tie.After-rank-candidate2 Inv-loop μ-loop → tie.After-successor Inv-loop μ-loop
+stepped d = d .before .before .before .before .before .before
+
+-- the step makes the measure fall
+less : (d : tie.After-successor Inv-loop μ-loop) → d .successor .result ≡ true
+    → let s = start (entry (head d)) in
+    choose (s .args .block-size) (s .args .k) - rankOf (s .args .block-size) (take (s .args .k) (d .successor .last .0))
+    < choose (s .args .block-size) (s .args .k) - rankOf (s .args .block-size) (take (s .args .k) (head d .loop .bits))
+less d e =
+    let l = head d in
+    let s = start (entry l) in
+    let a = s .args in
+    falls (bit s) (a .n) (a .block-size) (a .k) (s .pre .0 .chosen) (s .pre .0 .width) (l .loop .bits) (l .loop .best) (d .successor .last .0) (l .loop .z) (l .loop .inv .0) (d .successor .kept .0)
+    (d .successor .result) (d .successor .ensures) e
+
+-- and the buffers past 2 ^ k entries stay as they were where the loop began
+abbrev ranked : tie.At-loop Inv-loop μ-loop → tie.After-rank-candidate Inv-loop μ-loop
+ranked l = l .before .before .before .before .before
+
+buffers : (d : tie.After-rank-candidate2 Inv-loop μ-loop) → stepped d .successor .result ≡ true
+    → let k = start (entry (head (stepped d))) .args .k in
+    let was = ranked (head (stepped d)) .rank-candidate .last .1 .1 .1 .1 .1 .1 .1 in
+    let is = d .rank-candidate2 .last .1 .1 .1 .1 .1 .1 .1 in
+    (length (is .0) ≡ length (was .0)) × (drop (2 ^ k) (is .0) ≡ drop (2 ^ k) (was .0))
+    × (length (is .1 .0) ≡ length (was .1 .0)) × (drop (2 ^ k) (is .1 .0) ≡ drop (2 ^ k) (was .1 .0))
+buffers d e =
+    let l = head (stepped d) in
+    let s = start (entry l) in
+    let a = s .args in
+    let r = d .rank-candidate2 in
+    let bits = take (a .k) (stepped d .successor .last .0) in
+    let size = is-next (stepped d) e .size in (
+      r .kept .1 .1 .1 .1 .1 .1 .1 .0 ∙ l .loop .inv .1,
+      counts-rest (bit s) (a .n) (a .k) bits (l .loop .bins) (r .last .1 .1 .1 .1 .1 .1 .1 .0) size (r .ensures .1 .0) ∙ l .loop .inv .2,
+      r .kept .1 .1 .1 .1 .1 .1 .1 .1 .0 ∙ l .loop .inv .3,
+      order-rest (bit s) (a .n) (a .k) bits (l .loop .order) (r .last .1 .1 .1 .1 .1 .1 .1 .1 .0) size (r .ensures .1 .1) ∙ l .loop .inv .4,
+    )
+
+loop-less : tie.Need-loop-less Inv-loop μ-loop
+loop-less c = let d = c .before .before .before .before .before .before in less (stepped d) (d .before .before .before .before .if1 .taken)
+
+loop-again : tie.Need-loop-again Inv-loop μ-loop
+loop-again c =
+    let d = c .before .before .before .before .before .before in
+    let e = d .before .before .before .before .if1 .taken in
+    let l = head (stepped d) in
+    let s = start (entry l) in
+    let a = s .args in
+    let r = d .rank-candidate2 in (
+      takes (bit s) (a .n) (a .block-size) (a .k) (s .pre .0 .chosen) (s .pre .0 .width) (l .loop .bits) (l .loop .best) (stepped d .successor .last .0) (l .loop .z) (l .loop .inv .0)
+          (stepped d .successor .kept .0) (stepped d .successor .result) (stepped d .successor .ensures) e (r .result .z) (ap (λ (q : Ranking). q .z) (r .ensures .0)) (holds _ (c .if2 .taken)),
+      buffers d e .0,
+      buffers d e .1,
+      buffers d e .2,
+      buffers d e .3,
+    )
+
+loop-less-2 : tie.Need-loop-less-2 Inv-loop μ-loop
+loop-less-2 c = let d = c .before .before .before .before .before .before in less (stepped d) (d .before .before .before .before .if1 .taken)
+
+loop-again-2 : tie.Need-loop-again-2 Inv-loop μ-loop
+loop-again-2 c =
+    let d = c .before .before .before .before .before .before in
+    let e = d .before .before .before .before .if1 .taken in
+    let l = head (stepped d) in
+    let s = start (entry l) in
+    let a = s .args in
+    let r = d .rank-candidate2 in (
+      keeps (bit s) (a .n) (a .block-size) (a .k) (s .pre .0 .chosen) (s .pre .0 .width) (l .loop .bits) (l .loop .best) (stepped d .successor .last .0) (l .loop .z) (l .loop .inv .0)
+          (stepped d .successor .kept .0) (stepped d .successor .result) (stepped d .successor .ensures) e (r .result .z) (ap (λ (q : Ranking). q .z) (r .ensures .0)) (fails _ (c .if2 .left)),
+      buffers d e .0,
+      buffers d e .1,
+      buffers d e .2,
+      buffers d e .3,
+    )
+
+same-length : tie.Need-same-length Inv-loop μ-loop
+same-length c = let l = head (c .before .before) in l .loop .inv .1 ∙ ranked l .rank-candidate .kept .1 .1 .1 .1 .1 .1 .1 .0
+
+same-length-2 : tie.Need-same-length-2 Inv-loop μ-loop
+same-length-2 c = let l = head (c .before .before) in l .loop .inv .3 ∙ ranked l .rank-candidate .kept .1 .1 .1 .1 .1 .1 .1 .1 .0
+
+returns : tie.Need-returns Inv-loop μ-loop
+returns c =
+    let d = c .before .before in
+    let l = head d in
+    let s = start (entry l) in
+    let a = s .args in
+    let r = ranked l .rank-candidate in
+    let bits = take (a .k) (entry l .first .result) in
+    let size = is-first (entry l) .size in (
+      ends (bit s) (a .n) (a .block-size) (a .k) (s .pre .0 .chosen) (s .pre .0 .width) (l .loop .bits) (l .loop .best) (d .successor .last .0) (l .loop .z) (l .loop .inv .0)
+          (d .successor .kept .0) (d .successor .result) (d .successor .ensures) (c .if1 .left),
+      (
+        l .loop .inv .2 ∙ counts-rest (bit s) (a .n) (a .k) bits (a .bins .now) (r .last .1 .1 .1 .1 .1 .1 .1 .0) size (r .ensures .1 .0),
+        l .loop .inv .4 ∙ order-rest (bit s) (a .n) (a .k) bits (a .order .now) (r .last .1 .1 .1 .1 .1 .1 .1 .1 .0) size (r .ensures .1 .1),
+      ),
+    )
+
+pub walk-spec : {M : Type 1} → statement M
+walk-spec =
+    tie.close
+    (tie.spec
+    Inv-loop
+    μ-loop
+    first-requires
+    array-share-prefix-bits
+    slice-aggregate-rank-candidate
+    rank-candidate-requires
+    loop-holds
+    slice-aggregate-successor
+    successor-requires
+    array-share-prefix-bits-2
+    slice-aggregate-rank-candidate-2
+    rank-candidate-requires-2
+    loop-less
+    loop-again
+    loop-less-2
+    loop-again-2
+    same-length
+    same-length-2
+    returns)

@@ -1,0 +1,80 @@
+-- `search::brute_force_threads` meets its contract: past the refusals the pass finds the winner.
+use mathlib.Core.Path.{_≡_, sym, ap, _∙_}
+use native.Mathlib.Omega.{arith}
+use lib.ListN.{length}
+use borrow.Author.Needs.{needs}
+use Rattle.counting.proofs.Accepted.{valid-facts}
+use Rattle.searching.specs.Finding.{refusedWith}
+use Rattle.searching.specs.Refusal.{directRefusal}
+use Rattle.searching.proofs.Refusing.{DirectFree, direct-free, searchable, search-refused, search-found}
+use Rattle.searching.proofs.search.brute_force_threads.Statement.{statement}
+use Rattle.searching.proofs.search.brute_force_threads.Tie as tie
+
+direct-refusal-requires : tie.Need-direct-refusal-requires
+direct-refusal-requires c κs = search needs
+
+refused-requires : tie.Need-refused-requires
+refused-requires c κs = search needs
+
+returns : tie.Need-returns
+returns c =
+    let d = c .before .before in
+    let a = d .before .before .before .before .args in
+    let is = d .direct-refusal .ensures in
+    search-refused _ (a .sampler) (a .words .now) (a .k) (a .bins .now) (a .order .now) (c .refused .result) (λ z. c .before .if1 .taken (is ∙ z))
+    (c .refused .ensures ∙ ap refusedWith is)
+
+-- ---- past the refusals
+
+abbrev start : tie.Else1 → tie.Start
+start e = e .before .before .before .before .before
+
+none : (e : tie.Else1) → let a = start e .args in directRefusal (a .sampler) (length (a .words .now)) (a .k) (length (a .bins .now)) (length (a .order .now)) ≡ 0
+none e = sym (e .before .direct-refusal .ensures) ∙ e .if1 .left
+
+free : (e : tie.Else1) → let a = start e .args in DirectFree (a .sampler) (length (a .words .now)) (a .k) (length (a .bins .now)) (length (a .order .now))
+free e = let a = start e .args in direct-free (a .sampler) (length (a .words .now)) (a .k) (length (a .bins .now)) (length (a .order .now)) (none e)
+
+div-n : tie.Need-div-n
+div-n c = omega (arith, valid-facts _ (free (c .before) .search .usable .valid))
+
+div-find : tie.Need-div-find
+div-find c = omega (arith, valid-facts _ (free (c .before) .search .usable .valid))
+
+slice-aggregate-find : tie.Need-slice-aggregate-find
+slice-aggregate-find c = search needs
+
+find-requires : tie.Need-find-requires
+find-requires c κs =
+    let e = c .before .before .before .before in
+    let a = start e .args in
+    let f = free e in
+    (searchable (a .sampler) (length (a .words .now)) (a .k) (f .search), (record { holds = λ h. absurd (omega arith) }, f .room))
+
+same-length : tie.Need-same-length
+same-length c = search needs
+
+same-length-2 : tie.Need-same-length-2
+same-length-2 c = search needs
+
+returns-2 : tie.Need-returns-2
+returns-2 c =
+    let at-find = c .before .before .before .before in
+    let e = at-find .before .before .before .before .before in
+    let a = start e .args in
+    search-found _ (a .sampler) (a .words .now) (a .k) (a .bins .now) (a .order .now) (at-find .find .result) _ _ (none e) (at-find .find .ensures)
+
+pub brute-force-threads-spec : {M : Type 1} → statement M
+brute-force-threads-spec =
+    tie.close
+    (tie.spec
+    direct-refusal-requires
+    refused-requires
+    returns
+    div-n
+    div-find
+    slice-aggregate-find
+    find-requires
+    same-length
+    same-length-2
+    returns-2)

@@ -1,0 +1,41 @@
+-- Worked examples at block size 8, from the bytes of a recording.
+use mathlib.Core.Path.{_≡_}
+use mathlib.Core.Bool.{false}
+use mathlib.Core.List.{List, [], _∷_}
+use Prim.Native.Nat.{ℕ}
+use lib.Ieee.{Float, fin}
+use lib.IntN.{pos}
+use Rattle.counting.specs.Recording.{blocksIn, recordedBit}
+use Rattle.counting.specs.Sample.{countsOf}
+use Rattle.ranking.specs.Order.{orderOf}
+use Rattle.layers.specs.Examples.{StoresOfEight}
+use Rattle.subsets.specs.Examples.{RanksOfEight}
+use Rattle.searching.specs.Finding.{winnerOf, rankingOf}
+
+-- what a search of width k finds in the bytes
+pub record Finds (bytes : List ℕ) (k : ℕ) (bits order : List ℕ) (division : ℕ) (z : Float) : Type 0 where
+  pub chosen : winnerOf (recordedBit 8 bytes) (blocksIn 8 bytes) 8 k ≡ bits
+  pub ordered : orderOf (countsOf (recordedBit 8 bytes) (blocksIn 8 bytes) bits) ≡ order
+  pub ranked : rankingOf (recordedBit 8 bytes) (blocksIn 8 bytes) bits ≡ record { division = division; z = z }
+
+-- 0 and 2 as doubles
+abbrev pub none : Float
+none = fin false 0 (pos 0)
+
+abbrev pub two : Float
+two = fin false 1 (pos 1)
+
+-- Theorem: the worked examples of the search.
+pub record Examples : Type 0 where
+  -- 80 80 80 80: the first bit is always set
+  pub always : Finds (0x80 ∷ 0x80 ∷ 0x80 ∷ 0x80 ∷ []) 1 (0 ∷ []) (1 ∷ 0 ∷ []) 1 two
+  -- FF 00: every bit is set once, so all tie
+  pub ties : Finds (0xff ∷ 0 ∷ []) 1 (0 ∷ []) (0 ∷ 1 ∷ []) 1 none
+  -- nothing recorded
+  pub empty : Finds [] 3 (0 ∷ 1 ∷ 2 ∷ []) (0 ∷ 1 ∷ 2 ∷ 3 ∷ 4 ∷ 5 ∷ 6 ∷ 7 ∷ []) 1 none
+  -- 00 00 FF FF: two bits that agree
+  pub together : Finds (0 ∷ 0 ∷ 0xff ∷ 0xff ∷ []) 2 (0 ∷ 1 ∷ []) (0 ∷ 3 ∷ 1 ∷ 2 ∷ []) 2 two
+  -- ranks of pairs
+  pub ranks : RanksOfEight
+  -- the stores of width 8
+  pub stores : StoresOfEight

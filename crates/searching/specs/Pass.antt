@@ -1,0 +1,39 @@
+-- One pass over the subsets: what it needs of its arguments, and what it leaves.
+use Prim.Native.Nat.{ℕ, _-_, _*_, _^_, _≤_, _<_, max}
+use mathlib.Core.Path.{_≡_}
+use mathlib.Core.List.{List, _++_}
+use lib.ListN.{length, drop}
+use Rattle.counting.specs.Rows.{BlocksIn}
+use Rattle.counting.specs.Sample.{countsOf}
+use Rattle.layers.specs.Layers.{Holds}
+use Rattle.layers.specs.Size.{Stored}
+use Rattle.ranking.specs.Order.{orderOf}
+use Rattle.searching.specs.Finding.{winnerOf, findingOf}
+use Rattle.searching.specs.declared.finding.Finding.{Finding}
+
+-- a block and a width within their limits, a row of `stride` words for each bit, and n blocks in them
+pub record Searchable (words stride n B k : ℕ) : Type 0 where
+  pub some : 1 ≤ k
+  pub width : k ≤ 20
+  pub chosen : k ≤ B
+  pub size : B ≤ 4096
+  pub rows : B * stride ≤ words
+  pub blocks : BlocksIn stride n
+
+-- both buffers have room for 2 ^ k entries
+abbrev pub Room : ℕ → List ℕ → List ℕ → Type 0
+Room k bins order = (2 ^ k ≤ length bins) × (2 ^ k ≤ length order)
+
+-- the layer that a candidate's bins are worked out from: none, where every bin is counted, or layer k - 1
+pub record LayerBelow (bit : ℕ → ℕ → ℕ) (n B k : ℕ) (layer : List ℕ) : Type 0 where
+  pub holds : 0 < length layer → Holds bit n B (k - 1) layer
+
+-- What a pass over n blocks leaves: the winner as the finding, its counts and bin order first in the buffers, and past them what was there.
+pub record Won (bit : ℕ → ℕ → ℕ) (n B k : ℕ) (bins order : List ℕ) (r : Finding) (bins′ order′ : List ℕ) : Type 0 where
+  pub found : r ≡ findingOf bit n B (winnerOf bit n B k)
+  pub counted : bins′ ≡ countsOf bit n (winnerOf bit n B k) ++ drop (2 ^ k) bins
+  pub ordered : order′ ≡ orderOf (countsOf bit n (winnerOf bit n B k)) ++ drop (2 ^ k) order
+
+-- each layer from 1 to max(1, k - 1) can be stored in stores of a and of b entries
+abbrev pub Suffice : ℕ → ℕ → ℕ → ℕ → Type 0
+Suffice B k a b = (d : ℕ) → 1 ≤ d → d ≤ max 1 (k - 1) → Stored B k a b d

@@ -1,0 +1,89 @@
+// From layer to layer up to the width that is searched.
+ghost use mathlib.Core.Path.{_≡_};
+ghost use Prim.Native.Nat.{_+_, _≤_, _<_};
+ghost use lib.ListN.{length, drop};
+ghost use Rattle.counting.specs.Words.{storedBit};
+ghost use Rattle.layers.specs.Layers.{Holds};
+ghost use Rattle.layers.specs.Size.{storeSize};
+ghost use Rattle.searching.specs.Pass.{Searchable, Room, Suffice, Won};
+use crate::finding::Finding;
+use crate::pass::find;
+use layers::layers::fill_layer;
+
+// Finds the best k-subset by layers. The first W entries of each store are free, the others stay.
+pub fn find_layered(
+    words: &[u64],
+    stride: usize,
+    n: usize,
+    block_size: usize,
+    k: usize,
+    first: &mut [u32],
+    second: &mut [u32],
+    bins: &mut [u32],
+    order: &mut [u32],
+) -> Finding
+    requires { ⌜ Searchable (length (now words)) stride n «block_size» k ⌝ }
+    requires { ⌜ Suffice «block_size» k (length (now first)) (length (now second)) ⌝ }
+    requires { ⌜ Room k (now bins) (now order) ⌝ }
+    ensures { λ r. ⌜ Won (storedBit stride (now (words .entry))) n «block_size» k (now (bins .entry)) (now (order .entry)) r (now (bins .exit)) (now (order .exit)) ⌝ }
+    ensures { λ _. ⌜ (drop (storeSize «block_size» k) (now (first .exit)) ≡ drop (storeSize «block_size» k) (now (first .entry))) × (drop (storeSize «block_size» k) (now (second .exit)) ≡ drop (storeSize «block_size» k) (now (second .entry))) ⌝ }
+{
+    // Layer 0: the one bin of the empty subset has all blocks.
+    let none = [n as u32];
+    if k == 1 {
+        return find(words, stride, n, block_size, k, &none, bins, order);
+    }
+    fill_layer(1, words, stride, n, block_size, &none, first);
+    climb(
+        1,
+        words,
+        stride,
+        n,
+        block_size,
+        k,
+        first,
+        second,
+        bins,
+        order,
+    )
+}
+
+// Layer d stands in the lower store: the next is made in the upper one and the two change places, until layer k - 1 stands.
+fn climb(
+    d: usize,
+    words: &[u64],
+    stride: usize,
+    n: usize,
+    block_size: usize,
+    k: usize,
+    lower: &mut [u32],
+    upper: &mut [u32],
+    bins: &mut [u32],
+    order: &mut [u32],
+) -> Finding
+    requires { ⌜ (1 ≤ d) × (d < k) ⌝ }
+    requires { ⌜ Searchable (length (now words)) stride n «block_size» k ⌝ }
+    requires { ⌜ Suffice «block_size» k (length (now lower)) (length (now upper)) ⌝ }
+    requires { ⌜ Holds (storedBit stride (now words)) n «block_size» d (now lower) ⌝ }
+    requires { ⌜ Room k (now bins) (now order) ⌝ }
+    ensures { λ r. ⌜ Won (storedBit stride (now (words .entry))) n «block_size» k (now (bins .entry)) (now (order .entry)) r (now (bins .exit)) (now (order .exit)) ⌝ }
+    ensures { λ _. ⌜ (drop (storeSize «block_size» k) (now (lower .exit)) ≡ drop (storeSize «block_size» k) (now (lower .entry))) × (drop (storeSize «block_size» k) (now (upper .exit)) ≡ drop (storeSize «block_size» k) (now (upper .entry))) ⌝ }
+{
+    let above = d + 1;
+    if above == k {
+        return find(words, stride, n, block_size, k, lower, bins, order);
+    }
+    fill_layer(above, words, stride, n, block_size, lower, upper);
+    climb(
+        above,
+        words,
+        stride,
+        n,
+        block_size,
+        k,
+        upper,
+        lower,
+        bins,
+        order,
+    )
+}

@@ -1,0 +1,156 @@
+// One ordered pass over the k-subsets of a block.
+ghost use mathlib.Core.Path.{_≡_};
+ghost use Prim.Native.Nat.{_^_, _≤_};
+ghost use lib.ListN.{length, drop};
+ghost use Rattle.counting.specs.Words.{storedBit};
+ghost use Rattle.ranking.specs.Ranking.{Roots};
+ghost use Rattle.subsets.specs.Subsets.{padded};
+ghost use Rattle.searching.specs.Finding.{winnerOf};
+ghost use Rattle.searching.specs.Pass.{Searchable, Room, LayerBelow, Won};
+use crate::candidate::rank_candidate;
+use crate::finding::Finding;
+use ranking::ranking::Ranking;
+use ranking::ranking::fill_roots;
+use subsets::stepping::first;
+use subsets::stepping::successor;
+
+// Finds the best k-subset. Its counts and bin order are left in the buffers, whose entries past 2 ^ k stay.
+// An empty layer means that every bin is counted; else layer k - 1 stands in it.
+pub fn find(
+    words: &[u64],
+    stride: usize,
+    n: usize,
+    block_size: usize,
+    k: usize,
+    layer: &[u32],
+    bins: &mut [u32],
+    order: &mut [u32],
+) -> Finding
+    requires { ⌜ Searchable (length (now words)) stride n «block_size» k ⌝ }
+    requires { ⌜ LayerBelow (storedBit stride (now words)) n «block_size» k (now layer) ⌝ }
+    requires { ⌜ Room k (now bins) (now order) ⌝ }
+    ensures { λ r. ⌜ Won (storedBit stride (now (words .entry))) n «block_size» k (now (bins .entry)) (now (order .entry)) r (now (bins .exit)) (now (order .exit)) ⌝ }
+{
+    let mut roots = no_roots();
+    let size = table_size(k);
+    find_with(
+        &mut roots[..size],
+        words,
+        stride,
+        n,
+        block_size,
+        k,
+        layer,
+        bins,
+        order,
+    )
+}
+
+// Room for a table of roots.
+fn no_roots() -> [f64; 256]
+    ensures { λ r. ⌜ 256 ≡ length r ⌝ }
+{
+    [0.0; 256]
+}
+
+// How many roots are worked out once for all subsets: one for each division, as far as the table goes.
+fn table_size(k: usize) -> usize
+    ensures { λ r. ⌜ r ≤ 256 ⌝ }
+{
+    if k < 8 { 1 << k } else { 256 }
+}
+
+// The same with room for the roots.
+fn find_with(
+    roots: &mut [f64],
+    words: &[u64],
+    stride: usize,
+    n: usize,
+    block_size: usize,
+    k: usize,
+    layer: &[u32],
+    bins: &mut [u32],
+    order: &mut [u32],
+) -> Finding
+    requires { ⌜ length (now roots) ≤ 256 ⌝ }
+    requires { ⌜ Searchable (length (now words)) stride n «block_size» k ⌝ }
+    requires { ⌜ LayerBelow (storedBit stride (now words)) n «block_size» k (now layer) ⌝ }
+    requires { ⌜ Room k (now bins) (now order) ⌝ }
+    ensures { λ r. ⌜ Won (storedBit stride (now (words .entry))) n «block_size» k (now (bins .entry)) (now (order .entry)) r (now (bins .exit)) (now (order .exit)) ⌝ }
+{
+    fill_roots(roots, n as u32, k);
+    let bits = walk(words, stride, n, block_size, k, layer, roots, bins, order);
+    // The pass leaves the last candidate in the buffers.
+    let ranking = rank_candidate(
+        &bits[..k],
+        words,
+        stride,
+        n,
+        block_size,
+        layer,
+        roots,
+        bins,
+        order,
+    );
+    Finding {
+        block_size,
+        width: k,
+        bits,
+        division: ranking.division,
+        z: ranking.z,
+    }
+}
+
+// The best k-subset: a later one takes the place of the best so far only where its z is greater.
+// The buffers are left at the last candidate.
+fn walk(
+    words: &[u64],
+    stride: usize,
+    n: usize,
+    block_size: usize,
+    k: usize,
+    layer: &[u32],
+    roots: &[f64],
+    bins: &mut [u32],
+    order: &mut [u32],
+) -> [u32; 20]
+    requires { ⌜ Searchable (length (now words)) stride n «block_size» k ⌝ }
+    requires { ⌜ LayerBelow (storedBit stride (now words)) n «block_size» k (now layer) ⌝ }
+    requires { ⌜ Room k (now bins) (now order) ⌝ }
+    requires { ⌜ Roots n k (now roots) ⌝ }
+    ensures { λ r. ⌜ r ≡ padded (winnerOf (storedBit stride (now (words .entry))) n «block_size» k) ⌝ }
+    ensures { λ _. ⌜ (drop (2 ^ k) (now (bins .exit)) ≡ drop (2 ^ k) (now (bins .entry))) × (drop (2 ^ k) (now (order .exit)) ≡ drop (2 ^ k) (now (order .entry))) ⌝ }
+{
+    let mut bits = first(k);
+    let mut best = bits;
+    let ranking = rank_candidate(
+        &bits[..k],
+        words,
+        stride,
+        n,
+        block_size,
+        layer,
+        roots,
+        bins,
+        order,
+    );
+    let mut z = ranking.z;
+    while successor(&mut bits, k, block_size) {
+        let next = rank_candidate(
+            &bits[..k],
+            words,
+            stride,
+            n,
+            block_size,
+            layer,
+            roots,
+            bins,
+            order,
+        );
+        if z < next.z {
+            best = bits;
+            z = next.z;
+        }
+    }
+    best
+}

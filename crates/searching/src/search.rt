@@ -1,0 +1,167 @@
+// The searches, as a caller meets them: each refuses what it cannot search, and leaves the buffers as lent where it does.
+ghost use mathlib.Core.Path.{_≡_};
+ghost use Prim.Native.Nat.{_*_, _<_};
+ghost use Rattle.searching.specs.Refusal.{widthRefusal, bufferRefusal, searchRefusal, directRefusal, layeredRefusal};
+ghost use Rattle.searching.specs.Search.{DirectSearch, LayeredSearch};
+use crate::climb::find_layered;
+use crate::finding::Searched;
+use crate::finding::refused;
+use crate::pass::find;
+use counting::sampling::Sampler;
+use counting::sampling::sampler_refusal;
+use layers::size::store_refusal;
+use ranking::ranking::bin_count;
+use subsets::bits::valid_width;
+
+// The direct search: every bin of every subset is counted from the rows. Refusals 4, 2, 3, 7.
+pub fn brute_force_threads(
+    sampler: Sampler,
+    words: &[u64],
+    k: usize,
+    bins: &mut [u32],
+    order: &mut [u32],
+) -> Searched
+    ensures { λ r. ⌜ DirectSearch sampler (now (words .entry)) k (now (bins .entry)) (now (order .entry)) r (now (bins .exit)) (now (order .exit)) ⌝ }
+{
+    let refusal = direct_refusal(sampler, words.len(), k, bins.len(), order.len());
+    if refusal != 0 {
+        return refused(refusal);
+    }
+    let block_size = sampler.block_size;
+    let n = sampler.taken / (block_size / 8);
+    let none: [u32; 0] = [];
+    let finding = find(
+        words,
+        words.len() / block_size,
+        n,
+        block_size,
+        k,
+        &none,
+        bins,
+        order,
+    );
+    Searched {
+        refusal: 0,
+        finding,
+    }
+}
+
+// The layered search: one bin of each subset is counted, and the others are worked out from the layer below. Refusals 4, 2, 3, 6, 7.
+// After success the first W entries of each store are free.
+pub fn brute_force(
+    sampler: Sampler,
+    words: &[u64],
+    k: usize,
+    first: &mut [u32],
+    second: &mut [u32],
+    bins: &mut [u32],
+    order: &mut [u32],
+) -> Searched
+    ensures { λ r. ⌜ LayeredSearch sampler (now (words .entry)) k (now (first .entry)) (now (second .entry)) (now (bins .entry)) (now (order .entry)) r (now (first .exit)) (now (second .exit)) (now (bins .exit)) (now (order .exit)) ⌝ }
+{
+    let refusal = layered_refusal(
+        sampler,
+        words.len(),
+        k,
+        first.len(),
+        second.len(),
+        bins.len(),
+        order.len(),
+    );
+    if refusal != 0 {
+        return refused(refusal);
+    }
+    let block_size = sampler.block_size;
+    let n = sampler.taken / (block_size / 8);
+    let finding = find_layered(
+        words,
+        words.len() / block_size,
+        n,
+        block_size,
+        k,
+        first,
+        second,
+        bins,
+        order,
+    );
+    Searched {
+        refusal: 0,
+        finding,
+    }
+}
+
+// 4, 2, 3, 6, 7, or 0 where the layered search can be made with stores of `first` and `second` entries.
+fn layered_refusal(
+    sampler: Sampler,
+    words: usize,
+    k: usize,
+    first: usize,
+    second: usize,
+    bins: usize,
+    order: usize,
+) -> u32
+    requires { ⌜ 8 * words < 9223372036854775808 ⌝ }
+    ensures { λ r. ⌜ r ≡ layeredRefusal sampler words k first second bins order ⌝ }
+{
+    let refusal = search_refusal(sampler, words, k);
+    if refusal != 0 {
+        return refusal;
+    }
+    let short = store_refusal(sampler.block_size, k, first, second);
+    if short != 0 {
+        return short;
+    }
+    buffer_refusal(k, bins, order)
+}
+
+// 4, 2, 3, 7, or 0 where the direct search can be made.
+fn direct_refusal(sampler: Sampler, words: usize, k: usize, bins: usize, order: usize) -> u32
+    requires { ⌜ 8 * words < 9223372036854775808 ⌝ }
+    ensures { λ r. ⌜ r ≡ directRefusal sampler words k bins order ⌝ }
+{
+    let refusal = search_refusal(sampler, words, k);
+    if refusal != 0 {
+        return refusal;
+    }
+    buffer_refusal(k, bins, order)
+}
+
+// 4, 2, 3, or 0 where the sampler has these words and the width fits its block.
+fn search_refusal(sampler: Sampler, words: usize, k: usize) -> u32
+    requires { ⌜ 8 * words < 9223372036854775808 ⌝ }
+    ensures { λ r. ⌜ r ≡ searchRefusal sampler words k ⌝ }
+{
+    let refusal = sampler_refusal(sampler, words);
+    if refusal != 0 {
+        return refusal;
+    }
+    width_refusal(sampler.block_size, k)
+}
+
+// 2, 3, or 0 where the width fits the block.
+pub fn width_refusal(block_size: usize, k: usize) -> u32
+    ensures { λ r. ⌜ r ≡ widthRefusal «block_size» k ⌝ }
+{
+    if !valid_width(k) {
+        return 2;
+    }
+    if k > block_size {
+        return 3;
+    }
+    0
+}
+
+// 7, or 0 where both buffers have 2 ^ k entries.
+pub fn buffer_refusal(k: usize, bins: usize, order: usize) -> u32
+    requires { ⌜ k < 21 ⌝ }
+    ensures { λ r. ⌜ r ≡ bufferRefusal k bins order ⌝ }
+{
+    let m = bin_count(k);
+    if bins < m {
+        return 7;
+    }
+    if order < m {
+        return 7;
+    }
+    0
+}

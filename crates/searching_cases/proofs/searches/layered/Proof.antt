@@ -1,0 +1,83 @@
+-- `searches::layered` is safe: the parts of the arrays that are lent have the lengths read.
+use borrow.Author.Needs.{needs}
+use native.Mathlib.Omega.{arith}
+use lib.ListN.{length-take}
+use Rattle.searching_cases.proofs.searches.layered.Statement.{statement}
+use Rattle.searching_cases.proofs.searches.layered.Tie as tie
+
+buffer-requires : tie.Need-buffer-requires
+buffer-requires c κs = search needs
+
+buffer-requires-2 : tie.Need-buffer-requires-2
+buffer-requires-2 c κs = search needs
+
+store-requires : tie.Need-store-requires
+store-requires c κs = search needs
+
+store-requires-2 : tie.Need-store-requires-2
+store-requires-2 c κs = search needs
+
+at-most-requires : tie.Need-at-most-requires
+at-most-requires c κs = search needs
+
+at-most-requires-2 : tie.Need-at-most-requires-2
+at-most-requires-2 c κs = search needs
+
+at-most-requires-3 : tie.Need-at-most-requires-3
+at-most-requires-3 c κs = search needs
+
+at-most-requires-4 : tie.Need-at-most-requires-4
+at-most-requires-4 c κs = search needs
+
+array-borrow-prefix-first : tie.Need-array-borrow-prefix-first
+array-borrow-prefix-first c = search needs
+
+slice-aggregate-layered-with : tie.Need-slice-aggregate-layered-with
+slice-aggregate-layered-with c = simp length-take (omega arith)
+
+array-borrow-prefix-second : tie.Need-array-borrow-prefix-second
+array-borrow-prefix-second c = search needs
+
+slice-aggregate-layered-with-2 : tie.Need-slice-aggregate-layered-with-2
+slice-aggregate-layered-with-2 c = simp length-take (omega arith)
+
+array-borrow-prefix-bins : tie.Need-array-borrow-prefix-bins
+array-borrow-prefix-bins c = search needs
+
+slice-aggregate-layered-with-3 : tie.Need-slice-aggregate-layered-with-3
+slice-aggregate-layered-with-3 c = simp length-take (omega arith)
+
+array-borrow-prefix-order : tie.Need-array-borrow-prefix-order
+array-borrow-prefix-order c = search needs
+
+slice-aggregate-layered-with-4 : tie.Need-slice-aggregate-layered-with-4
+slice-aggregate-layered-with-4 c = simp length-take (omega arith)
+
+layered-with-requires : tie.Need-layered-with-requires
+layered-with-requires c κs = search needs
+
+returns : tie.Need-returns
+returns c = search needs
+
+pub layered-spec : {M : Type 1} → statement M
+layered-spec =
+    tie.close
+    (tie.spec
+    buffer-requires
+    buffer-requires-2
+    store-requires
+    store-requires-2
+    at-most-requires
+    at-most-requires-2
+    at-most-requires-3
+    at-most-requires-4
+    array-borrow-prefix-first
+    slice-aggregate-layered-with
+    array-borrow-prefix-second
+    slice-aggregate-layered-with-2
+    array-borrow-prefix-bins
+    slice-aggregate-layered-with-3
+    array-borrow-prefix-order
+    slice-aggregate-layered-with-4
+    layered-with-requires
+    returns)

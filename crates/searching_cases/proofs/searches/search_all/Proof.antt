@@ -1,0 +1,45 @@
+-- `searches::search_all` is safe and ends: what is left falls.
+use borrow.Author.Needs.{needs}
+use Rattle.searching_cases.proofs.searches.search_all.Statement.{statement}
+use Rattle.searching_cases.proofs.searches.search_all.Tie as tie
+
+abbrev Inv-loop : tie.InvT-loop
+Inv-loop text at sampler words from₀ left₀ from left = Unit
+
+abbrev μ-loop : tie.MeasureT-loop
+μ-loop text at sampler words from₀ left₀ from left = left
+
+number-requires : tie.Need-number-requires Inv-loop μ-loop
+number-requires c κs = search needs
+
+loop-holds : tie.Need-loop-holds Inv-loop μ-loop
+loop-holds c = search needs
+
+search-one-requires : tie.Need-search-one-requires Inv-loop μ-loop
+search-one-requires c κs = search needs
+
+sub-left : tie.Need-sub-left Inv-loop μ-loop
+sub-left c = search needs
+
+loop-less : tie.Need-loop-less Inv-loop μ-loop
+loop-less c = search needs
+
+loop-again : tie.Need-loop-again Inv-loop μ-loop
+loop-again c = search needs
+
+returns : tie.Need-returns Inv-loop μ-loop
+returns c = search needs
+
+pub search-all-spec : {M : Type 1} → statement M
+search-all-spec =
+    tie.close
+    (tie.spec
+    Inv-loop
+    μ-loop
+    number-requires
+    loop-holds
+    search-one-requires
+    sub-left
+    loop-less
+    loop-again
+    returns)

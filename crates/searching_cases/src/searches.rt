@@ -1,0 +1,220 @@
+// Cases of searches: B and the number of lent words; the number of pieces, for each its length and its bytes; the number of searches, for each k, the
+// lengths of the bin buffer, the order buffer and the two stores, the number of entries of a store that the layered search may use, and 0 for the sampler
+// last returned, or 1 and another sampler's three fields.
+// Answer: a line for start and the feeds; for each search, first direct, then layered, a line with what it answers, one with the first 2 ^ k counts, one with
+// the first 2 ^ k entries of the order, and one with how many other entries of the buffers, and of the stores, are no longer as lent. Where it is refused,
+// all entries are such others.
+ghost use mathlib.Core.Path.{_≡_};
+ghost use lib.ListN.{length};
+use cases::entries::changed;
+use cases::entries::print_first;
+use cases::feeding::dirty;
+use cases::feeding::record;
+use cases::patterns::print_double;
+use cases::printing::end_line;
+use cases::printing::print;
+use cases::reading::at_most;
+use cases::reading::number;
+use counting::sampling::Sampler;
+use ranking::ranking::bin_count;
+use searching::finding::Searched;
+use searching::search::brute_force;
+use searching::search::brute_force_threads;
+
+// What the searches are given, and the place reached in the text.
+struct Search {
+    sampler: Sampler,
+    k: usize,
+    bins: u64,
+    order: u64,
+    first: u64,
+    second: u64,
+    free: usize,
+    at: usize,
+}
+
+// The sampler to search with, and the place reached in the text.
+struct Given {
+    sampler: Sampler,
+    at: usize,
+}
+
+// The number of cases, then the cases.
+pub fn replay(text: &[u8], at: usize) {
+    let cases = number(text, at);
+    let mut from = cases.at;
+    let mut left = cases.value;
+    while left > 0 {
+        from = replay_one(text, from);
+        left -= 1;
+    }
+}
+
+fn replay_one(text: &[u8], at: usize) -> usize {
+    let mut words = dirty();
+    let size = number(text, at);
+    let lent = number(text, size.at);
+    let count = at_most(lent.value, 8192);
+    replay_with(text, lent.at, size.value as usize, &mut words[..count])
+}
+
+fn replay_with(text: &[u8], at: usize, block_size: usize, words: &mut [u64]) -> usize {
+    let recorded = record(text, at, block_size, words);
+    search_all(text, recorded.at, recorded.sampler, words)
+}
+
+// The number of searches, then the searches.
+fn search_all(text: &[u8], at: usize, sampler: Sampler, words: &[u64]) -> usize {
+    let searches = number(text, at);
+    let mut from = searches.at;
+    let mut left = searches.value;
+    while left > 0 {
+        from = search_one(text, from, sampler, words);
+        left -= 1;
+    }
+    from
+}
+
+fn search_one(text: &[u8], at: usize, sampler: Sampler, words: &[u64]) -> usize {
+    let search = read_search(text, at, sampler);
+    direct(search, words);
+    layered(search, words);
+    search.at
+}
+
+fn read_search(text: &[u8], at: usize, returned: Sampler) -> Search {
+    let width = number(text, at);
+    let bins = number(text, width.at);
+    let order = number(text, bins.at);
+    let first = number(text, order.at);
+    let second = number(text, first.at);
+    let free = number(text, second.at);
+    let given = given_sampler(text, free.at, returned);
+    let sampler = given.sampler;
+    Search {
+        sampler,
+        k: width.value as usize,
+        bins: bins.value,
+        order: order.value,
+        first: first.value,
+        second: second.value,
+        free: free.value as usize,
+        at: given.at,
+    }
+}
+
+fn given_sampler(text: &[u8], at: usize, returned: Sampler) -> Given {
+    let other = number(text, at);
+    if other.value == 0 {
+        return Given {
+            sampler: returned,
+            at: other.at,
+        };
+    }
+    let size = number(text, other.at);
+    let words = number(text, size.at);
+    let taken = number(text, words.at);
+    Given {
+        sampler: Sampler {
+            block_size: size.value as usize,
+            words: words.value as usize,
+            taken: taken.value as usize,
+        },
+        at: taken.at,
+    }
+}
+
+fn direct(search: Search, words: &[u64]) {
+    let mut bins = buffer();
+    let mut order = buffer();
+    let a = at_most(search.bins, 1024);
+    let b = at_most(search.order, 1024);
+    direct_with(search, words, &mut bins[..a], &mut order[..b]);
+}
+
+fn direct_with(search: Search, words: &[u64], bins: &mut [u32], order: &mut [u32]) {
+    let searched = brute_force_threads(search.sampler, words, search.k, bins, order);
+    print_answer(searched, search.k, bins, order);
+    end_line();
+}
+
+fn layered(search: Search, words: &[u64]) {
+    let mut bins = buffer();
+    let mut order = buffer();
+    let mut first = store();
+    let mut second = store();
+    let a = at_most(search.bins, 1024);
+    let b = at_most(search.order, 1024);
+    let c = at_most(search.first, 335872);
+    let d = at_most(search.second, 335872);
+    layered_with(
+        search,
+        words,
+        &mut first[..c],
+        &mut second[..d],
+        &mut bins[..a],
+        &mut order[..b],
+    );
+}
+
+fn layered_with(
+    search: Search,
+    words: &[u64],
+    first: &mut [u32],
+    second: &mut [u32],
+    bins: &mut [u32],
+    order: &mut [u32],
+) {
+    let searched = brute_force(search.sampler, words, search.k, first, second, bins, order);
+    print_answer(searched, search.k, bins, order);
+    print(changed(first, search.free) as u64);
+    print(changed(second, search.free) as u64);
+    end_line();
+}
+
+fn buffer() -> [u32; 1024]
+    ensures { λ r. ⌜ 1024 ≡ length r ⌝ }
+{
+    [99; 1024]
+}
+
+// Room for the layers of up to 3 bits of a block of 64.
+fn store() -> [u32; 335872]
+    ensures { λ r. ⌜ 335872 ≡ length r ⌝ }
+{
+    [99; 335872]
+}
+
+fn print_answer(searched: Searched, k: usize, bins: &[u32], order: &[u32]) {
+    print_searched(searched);
+    let shown = shown_entries(searched.refusal, k);
+    print_first(bins, shown);
+    end_line();
+    print_first(order, shown);
+    end_line();
+    print(changed(bins, shown) as u64);
+    print(changed(order, shown) as u64);
+}
+
+fn print_searched(searched: Searched) {
+    let finding = searched.finding;
+    let bits = finding.bits;
+    print(searched.refusal as u64);
+    print(finding.block_size as u64);
+    print(finding.width as u64);
+    print_first(&bits, 20);
+    print(finding.division as u64);
+    print_double(finding.z);
+    end_line();
+}
+
+// How many entries of a buffer a search fills: none where it is refused.
+fn shown_entries(refusal: u32, k: usize) -> usize {
+    if refusal != 0 {
+        return 0;
+    }
+    if k > 20 {
+        return 0;
+    }
+    bin_count(k)
+}
