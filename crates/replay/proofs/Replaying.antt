@@ -1,0 +1,246 @@
+-- The calls of a replay are a session, so the claim holds of them: what the replay answers and leaves is what the plain recording says (theorem `replayed`).
+use mathlib.Core.Path.{_≡_, refl, ap, subst, _∙_}
+use mathlib.Core.Bool.{Bool, true, false}
+use mathlib.Core.List.{List, [], _∷_, _++_, append-assoc, append-nil}
+use Prim.Native.Nat.{ℕ, zero, suc, _^_, _≤_}
+use lib.Dec.{eqb}
+use lib.ListN.{length, drop}
+use borrow.Author.Tests.{eqb-true}
+use Rattle.counting.specs.Block.{validSize}
+use Rattle.counting.specs.Recorded.{State, started, fed, fedAll, answersFrom, Holds}
+use Rattle.counting.specs.Recording.{stride, capacityBytes, recording, blocksIn, recordedBit}
+use Rattle.counting.specs.Sample.{countsOf, AgreeBelow}
+use Rattle.counting.specs.Sampling.{startedOf, startedWords, fedOf, fedWords}
+use Rattle.counting.specs.Words.{storedBit}
+use Rattle.counting.specs.declared.sampling.Sampler.{Sampler}
+use Rattle.counting.specs.declared.sampling.Started.{Started}
+use Rattle.counting.proofs.Recorded.{all-recorded}
+use Rattle.layers.specs.Size.{storeRefusal}
+use Rattle.scoring.specs.Score.{Number}
+use Rattle.ranking.specs.Order.{orderOf}
+use Rattle.ranking.proofs.Dividing.{score-number}
+use Rattle.searching.specs.Claim.{Session, fresh, next, Best, Claim}
+use Rattle.searching.specs.Finding.{winnerOf}
+use Rattle.searching.specs.Refusal.{orElse, widthRefusal, searchRefusal, directRefusal, layeredRefusal}
+use Rattle.searching.specs.Search.{Search, DirectSearch, LayeredSearch, sampleOf, freeAfter}
+use Rattle.searching.specs.declared.finding.Finding.{Finding}
+use Rattle.searching.specs.declared.finding.Searched.{Searched}
+use Rattle.searching.proofs.Claiming.{agrees, usable-is, said-is, claims}
+use Rattle.searching.proofs.Filled.{replaced-rest, length-counts, length-order}
+use Rattle.searching.proofs.Walking.{winner-optimal}
+use Rattle.replay.specs.Agreement.{sameFinding, agreeOf}
+use Rattle.replay.specs.Pieces.{refusedIn, stateOf, FedPieces}
+use Rattle.replay.specs.Replay.{heldFinding, ReplayOf}
+use Rattle.replay.specs.declared.pieces.Taken.{Taken}
+use Rattle.replay.proofs.Agreeing.{winner-counts, winner-finding}
+use Rattle.replay.proofs.Comparing.{finding-self}
+use Rattle.replay.proofs.Refusing.{ReplayFree, stores-decide}
+
+-- ---- the calls are a session
+
+extend : {B : ℕ} {ws : List ℕ} {pieces : List (List ℕ)} {answers : List ℕ} {s : Sampler} {ws′ : List ℕ} → Session B ws pieces answers s ws′
+    → (more : List (List ℕ))
+    → Session B ws (pieces ++ more) (answers ++ answersFrom (stateOf s ws′) more) (fedAll (stateOf s ws′) more .sampler) (fedAll (stateOf s ws′) more .words)
+unfolding fed fedAll answersFrom
+extend {B} {ws} {pieces} {answers} {s} {ws′} S [] = rw (append-nil pieces, append-nil answers) S
+extend {B} {ws} {pieces} {answers} {s} {ws′} S (p ∷ more) =
+    let X = extend (next S p (fedOf s (length ws′) (length p)) (fedWords s ws′ p) refl refl) more in
+    simp append-assoc at X
+
+-- the state after start and all feeds
+abbrev pub stateAfter : ℕ → List ℕ → List (List ℕ) → State
+stateAfter B ws pieces = fedAll (started B ws) pieces
+
+module _ (B : ℕ) (ws : List ℕ) (pieces : List (List ℕ)) (ok : validSize B ≡ true) where
+  session : Session B ws pieces (answersFrom (started B ws) pieces) (stateAfter B ws pieces .sampler) (stateAfter B ws pieces .words)
+  unfolding started startedOf
+  session =
+      let none : startedOf B (length ws) .refusal ≡ 0 = simp ok in
+      extend (fresh (startedOf B (length ws)) (startedWords B ws) refl refl none) pieces
+
+  claim : Claim B ws pieces (answersFrom (started B ws) pieces) (stateAfter B ws pieces .sampler) (stateAfter B ws pieces .words)
+  claim = claims B ws pieces _ _ _ session
+
+  holds : Holds B (length ws) (stateAfter B ws pieces) (recording B (length ws) pieces)
+  holds = all-recorded B ws ok pieces .holds
+
+  -- a recorder's sampler is never refused
+  pub searchable : (k : ℕ) → widthRefusal B k ≡ 0 → searchRefusal (stateAfter B ws pieces .sampler) (length (stateAfter B ws pieces .words)) k ≡ 0
+  unfolding searchRefusal
+  searchable k e =
+      let H = holds in
+      rw (H .sampler, usable-is B (length ws) (recording B (length ws) pieces) (stateAfter B ws pieces .words) ok (H .lent) (H .within) (H .stored) k) e
+
+-- the state after start
+pub fresh-is : (B : ℕ) (ws : List ℕ) (r : Started) (ws₁ : List ℕ) → r ≡ startedOf B (length ws) → ws₁ ≡ startedWords B ws → stateOf (r .sampler) ws₁ ≡ started B ws
+unfolding started
+fresh-is B ws r ws₁ e g = λ i. record { sampler = e i .sampler; words = g i }
+
+-- .. and after all feeds
+pub state-is : (B : ℕ) (ws : List ℕ) (pieces : List (List ℕ)) (r : Started) (ws₁ : List ℕ) (taken : Taken) (ws₂ : List ℕ)
+    → r ≡ startedOf B (length ws) → ws₁ ≡ startedWords B ws → FedPieces (r .sampler) ws₁ pieces taken ws₂ → stateOf (taken .sampler) ws₂ ≡ stateAfter B ws pieces
+state-is B ws pieces r ws₁ taken ws₂ e g F = F .state ∙ ap (λ (q : State). fedAll q pieces) (fresh-is B ws r ws₁ e g)
+
+-- ---- one search, told of the recording
+
+-- what a search that is not refused finds and leaves
+record Told (B : ℕ) (held : List ℕ) (k : ℕ) (bins order : List ℕ) (f : Finding) (bins′ order′ : List ℕ) : Type 0 where
+  finding : f ≡ heldFinding B held k
+  counted : let bit = recordedBit B held in let n = blocksIn B held in bins′ ≡ countsOf bit n (winnerOf bit n B k) ++ drop (2 ^ k) bins
+  ordered : let bit = recordedBit B held in let n = blocksIn B held in order′ ≡ orderOf (countsOf bit n (winnerOf bit n B k)) ++ drop (2 ^ k) order
+
+module _ (B words : ℕ) (held ws : List ℕ) (ok : validSize B ≡ true) (lent : length ws ≡ words) (within : length held ≤ capacityBytes B words)
+    (agree : AgreeBelow (blocksIn B held) B (storedBit (stride B words) ws) (recordedBit B held)) (k : ℕ) (chosen : k ≤ B) where
+  abbrev s : Sampler
+  s = record { «block_size» = B; words = words; taken = length held }
+
+  abbrev n : ℕ
+  n = blocksIn B held
+
+  abbrev bit : ℕ → ℕ → ℕ
+  bit = sampleOf s ws
+
+  agreed-below : AgreeBelow n B bit (recordedBit B held)
+  agreed-below = agrees B words held ws ok lent within agree k
+
+  told : (bins order : List ℕ) (r : Searched) (bins′ order′ : List ℕ) → Search 0 s ws k bins order r bins′ order′ → Told B held k bins order (r .finding) bins′ order′
+  told bins order r bins′ order′ S =
+      let counts = winner-counts B n k bit (recordedBit B held) agreed-below chosen in
+      record {
+        finding = ap (λ (a : Searched). a .finding) (S .answered) ∙ winner-finding B n k bit (recordedBit B held) agreed-below chosen;
+        counted = S .counted ∙ ap (λ (c : List ℕ). c ++ drop (2 ^ k) bins) counts;
+        ordered = S .ordered ∙ ap (λ (c : List ℕ). orderOf c ++ drop (2 ^ k) order) counts;
+      }
+
+  -- refused or not, a search leaves what lies past the 2 ^ k entries
+  past-kept : (q : ℕ) (bins order : List ℕ) (r : Searched) (bins′ order′ : List ℕ) → Search q s ws k bins order r bins′ order′
+      → (drop (2 ^ k) bins′ ≡ drop (2 ^ k) bins) × (drop (2 ^ k) order′ ≡ drop (2 ^ k) order)
+  past-kept zero bins order r bins′ order′ S =
+      let W = winnerOf bit n B k in
+      let size = ap (λ (m : ℕ). 2 ^ m) (winner-optimal bit n B k chosen .subset .size) in (
+        ap (drop (2 ^ k)) (S .counted) ∙ replaced-rest (2 ^ k) (countsOf bit n W) bins (length-counts bit n W ∙ size),
+        ap (drop (2 ^ k)) (S .ordered) ∙ replaced-rest (2 ^ k) (orderOf (countsOf bit n W)) order (length-order bit n W ∙ size),
+      )
+  past-kept (suc q) bins order r bins′ order′ S = (ap (drop (2 ^ k)) (S .counted), ap (drop (2 ^ k)) (S .ordered))
+
+-- ---- both searches
+
+or-none : (r after : ℕ) → after ≡ 0 → orElse r after ≡ r
+or-none zero after e = e
+or-none (suc r) after e = refl
+
+-- the findings agree: where both searches succeed the claim says that they are the same, and the score is a number
+agree-is : (layered direct : Searched) → Number (direct .finding .z) → (layered .refusal ≡ 0 → direct .finding ≡ layered .finding) → agreeOf layered direct ≡ true
+unfolding agreeOf
+agree-is layered direct N same = by-test (eqb (layered .refusal) 0) refl
+  where
+    by-test : (t : Bool) → eqb (layered .refusal) 0 ≡ t → agreeOf layered direct ≡ true
+    by-test true e =
+        let is = same (eqb-true (layered .refusal) 0 e) in
+        rw e (subst (λ (f : Finding). sameFinding f (direct .finding) ≡ true) is (finding-self (direct .finding) N))
+    by-test false e = rw e
+
+module _ (B : ℕ) (ws : List ℕ) (pieces : List (List ℕ)) (bytes : ℕ) (lengths : List ℕ) (k : ℕ) (first second bins order : List ℕ)
+    (free : ReplayFree B bytes lengths k (length bins) (length order)) where
+  abbrev st : State
+  st = stateAfter B ws pieces
+
+  abbrev held : List ℕ
+  held = recording B (length ws) pieces
+
+  abbrev stores : ℕ
+  stores = storeRefusal B k (length first) (length second)
+
+  abbrev sampler : Sampler
+  sampler = record { «block_size» = B; words = length ws; taken = length held }
+
+  H : Holds B (length ws) st held
+  H = holds B ws pieces (free .valid)
+
+  C : Claim B ws pieces (answersFrom (started B ws) pieces) (st .sampler) (st .words)
+  C = claim B ws pieces (free .valid)
+
+  no-search : searchRefusal (st .sampler) (length (st .words)) k ≡ 0
+  no-search = searchable B ws pieces (free .valid) k (free .no-width)
+
+  -- the layered search is refused just where the stores do not suffice
+  layered-said : layeredRefusal (st .sampler) (length (st .words)) k (length first) (length second) (length bins) (length order) ≡ stores
+  layered-said =
+      let block : st .sampler .«block_size» ≡ B = ap (λ (q : Sampler). q .«block_size») (H .sampler) in
+      stores-decide (st .sampler) (length (st .words)) k (length first) (length second) (length bins) (length order) no-search
+      ∙ or-none _ _ (free .no-buffer) ∙ ap (λ (m : ℕ). storeRefusal m k (length first) (length second)) block
+
+  module _ (taken : Taken) (layered direct : Searched) (ws′ first′ second′ bins₁ order₁ bins′ order′ : List ℕ)
+      (is : stateOf (taken .sampler) ws′ ≡ stateAfter B ws pieces)
+      (made-layered : LayeredSearch (taken .sampler) ws′ k first second bins order layered first′ second′ bins₁ order₁)
+      (made-direct : DirectSearch (taken .sampler) ws′ k bins₁ order₁ direct bins′ order′)
+      (same-bins : length bins₁ ≡ length bins) (same-order : length order₁ ≡ length order) where
+    L : LayeredSearch (st .sampler) (st .words) k first second bins order layered first′ second′ bins₁ order₁
+    L = subst (λ (q : State). LayeredSearch (q .sampler) (q .words) k first second bins order layered first′ second′ bins₁ order₁) is made-layered
+
+    D : DirectSearch (st .sampler) (st .words) k bins₁ order₁ direct bins′ order′
+    D = subst (λ (q : State). DirectSearch (q .sampler) (q .words) k bins₁ order₁ direct bins′ order′) is made-direct
+
+    direct-said : directRefusal (st .sampler) (length (st .words)) k (length bins₁) (length order₁) ≡ 0
+    unfolding directRefusal
+    direct-said = rw (no-search, same-bins, same-order) (free .no-buffer)
+
+    succeeds : direct .refusal ≡ 0
+    succeeds =
+        let w = free .width in
+        C .direct k bins₁ order₁ direct bins′ order′ D .succeeds (w .some) (w .width) (w .chosen) (rw same-bins (free .room .0)) (rw same-order (free .room .1))
+
+    best : Best B held k (direct .finding) bins′ order′
+    best = C .direct k bins₁ order₁ direct bins′ order′ D .best succeeds
+
+    refusal : ℕ
+    refusal = layeredRefusal (st .sampler) (length (st .words)) k (length first) (length second) (length bins) (length order)
+
+    told-layered : Search refusal sampler (st .words) k bins order layered bins₁ order₁
+    unfolding refusal
+    told-layered = subst (λ (q : Sampler). Search refusal q (st .words) k bins order layered bins₁ order₁) (H .sampler) (L .search)
+
+    layered-is : layered .refusal ≡ stores
+    unfolding refusal
+    layered-is = said-is B (length ws) held (st .words) (free .valid) (H .lent) (H .within) (H .stored) k refusal layered (told-layered .answered) ∙ layered-said
+
+    agreed : agreeOf layered direct ≡ true
+    agreed =
+        agree-is layered direct (rw (best .z) (score-number _ _ _))
+        (λ z. C .same k bins₁ order₁ direct bins′ order′ D first second bins order layered first′ second′ bins₁ order₁ L succeeds z .findings)
+
+    found : Told B held k bins₁ order₁ (direct .finding) bins′ order′
+    found =
+        told B (length ws) held (st .words) (free .valid) (H .lent) (H .within) (H .stored) k (free .width .chosen) bins₁ order₁ direct bins′ order′
+        (subst (λ (q : Sampler). Search 0 q (st .words) k bins₁ order₁ direct bins′ order′) (H .sampler)
+        (subst (λ (q : ℕ). Search q (st .sampler) (st .words) k bins₁ order₁ direct bins′ order′) direct-said D))
+
+    past : (drop (2 ^ k) bins₁ ≡ drop (2 ^ k) bins) × (drop (2 ^ k) order₁ ≡ drop (2 ^ k) order)
+    past = past-kept B (length ws) held (st .words) (free .valid) (H .lent) (H .within) (H .stored) k (free .width .chosen) refusal bins order layered bins₁ order₁ told-layered
+
+    stores-kept : (drop (freeAfter stores B k) first′ ≡ drop (freeAfter stores B k) first) × (drop (freeAfter stores B k) second′ ≡ drop (freeAfter stores B k) second)
+    stores-kept =
+        let block : st .sampler .«block_size» ≡ B = ap (λ (q : Sampler). q .«block_size») (H .sampler) in
+        let same : freeAfter (layeredRefusal (st .sampler) (length (st .words)) k (length first) (length second) (length bins) (length order)) (st .sampler .«block_size») k
+        ≡ freeAfter stores B k = λ i. freeAfter (layered-said i) (block i) k in
+        subst (λ (m : ℕ). (drop m first′ ≡ drop m first) × (drop m second′ ≡ drop m second)) same (L .kept)
+
+    pub replayed : taken .refused ≡ refusedIn (answersFrom (started B ws) pieces)
+        → (agree : Bool) → agree ≡ agreeOf layered direct
+        → (q : ℕ) → q ≡ 0
+        → ReplayOf q B pieces k ws first second bins order
+        (record { refusal = 0; refused = taken .refused; layered = eqb (layered .refusal) 0; agree = agree; finding = direct .finding })
+        ws′ first′ second′ bins′ order′
+    replayed refused agree a q none =
+        let r = refused ∙ ap refusedIn (C .fed) in
+        let l = ap (λ (q : ℕ). eqb q 0) layered-is in
+        let g = a ∙ agreed in
+        let counts = countsOf (recordedBit B held) (blocksIn B held) (winnerOf (recordedBit B held) (blocksIn B held) B k) in
+        rw none (record {
+          answered = λ i. record { refusal = 0; refused = r i; layered = l i; agree = g i; finding = found .finding i };
+          written = ap (λ (x : State). x .words) is;
+          counted = found .counted ∙ ap (λ (rest : List ℕ). counts ++ rest) (past .0);
+          ordered = found .ordered ∙ ap (λ (rest : List ℕ). orderOf counts ++ rest) (past .1);
+          kept = stores-kept;
+          best = λ z. best;
+        })

@@ -1,0 +1,63 @@
+-- `replay::search_layered` meets its contract: where the stores do not suffice the search is left out, and else it is made.
+use Prim.Native.Nat.{_<_}
+use native.Mathlib.Omega.{arith}
+use lib.ListN.{length}
+use Rattle.counting.proofs.Accepted.{valid-facts}
+use Rattle.searching.proofs.Refusing.{SearchFree, search-free}
+use Rattle.replay.proofs.Refusing.{left-out}
+use borrow.Author.Needs.{needs}
+use Rattle.replay.proofs.replay.search_layered.Statement.{statement}
+use Rattle.replay.proofs.replay.search_layered.Tie as tie
+
+-- what the sampler's words and the width give
+free : (s : tie.Start) → SearchFree (s .args .sampler) (length (s .args .words .now)) (s .args .k)
+free s = search-free (s .args .sampler) (length (s .args .words .now)) (s .args .k) (s .pre)
+
+store-refusal-requires : tie.Need-store-refusal-requires
+store-refusal-requires c κs =
+    let s = c .before .before .before .before .before in
+    let small : s .args .sampler .«block_size» < 4294967296 = omega (arith, valid-facts _ (free s .usable .valid)) in
+    (small, free s .width .width)
+
+refused-requires : tie.Need-refused-requires
+refused-requires c κs = search needs
+
+returns : tie.Need-returns
+returns c =
+    let d = c .before .before in
+    let s = d .before .before .before .before .before .before in
+    let a = s .args in
+    left-out (a .sampler) (a .words .now) (a .k) (a .first .now) (a .second .now) (a .bins .now) (a .order .now) (c .refused .result) (d .store-refusal .result)
+    (s .pre) (d .store-refusal .ensures) (c .before .if1 .taken) (c .refused .ensures)
+
+brute-force-requires : tie.Need-brute-force-requires
+brute-force-requires c κs = search needs
+
+same-length : tie.Need-same-length
+same-length c = search needs
+
+same-length-2 : tie.Need-same-length-2
+same-length-2 c = search needs
+
+same-length-3 : tie.Need-same-length-3
+same-length-3 c = search needs
+
+same-length-4 : tie.Need-same-length-4
+same-length-4 c = search needs
+
+returns-2 : tie.Need-returns-2
+returns-2 c = search needs
+
+pub search-layered-spec : {M : Type 1} → statement M
+search-layered-spec =
+    tie.close
+    (tie.spec
+    store-refusal-requires
+    refused-requires
+    returns
+    brute-force-requires
+    same-length
+    same-length-2
+    same-length-3
+    same-length-4
+    returns-2)

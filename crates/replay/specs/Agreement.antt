@@ -1,0 +1,24 @@
+-- Whether two searches found the same.
+use Prim.Native.Nat.{ℕ, zero, suc}
+use mathlib.Core.Bool.{Bool, true, cond, _&&_}
+use mathlib.Core.List.{List}
+use lib.Dec.{eqb}
+use lib.Ieee.{eq}
+use lib.ListN.{getD}
+use Rattle.searching.specs.declared.finding.Finding.{Finding}
+use Rattle.searching.specs.declared.finding.Searched.{Searched}
+
+-- whether the first m entries are the same
+unfoldable pub sameTo : List ℕ → List ℕ → ℕ → Bool
+sameTo a b zero = true
+sameTo a b (suc i) = sameTo a b i && eqb (getD a i 0) (getD b i 0)
+
+-- whether two findings are the same in every field, the scores as the doubles' == has it
+unfoldable pub sameFinding : Finding → Finding → Bool
+sameFinding a b =
+    eqb (a .«block_size») (b .«block_size»)
+    && (eqb (a .width) (b .width) && (eqb (a .division) (b .division) && (sameTo (a .bits) (b .bits) 20 && eq (a .z) (b .z))))
+
+-- whether the two searches' findings are the same; true where the layered one did not run
+unfoldable pub agreeOf : Searched → Searched → Bool
+agreeOf layered direct = cond (eqb (layered .refusal) 0) (sameFinding (layered .finding) (direct .finding)) true

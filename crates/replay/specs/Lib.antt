@@ -1,0 +1,4 @@
+pub mod Pieces
+pub mod Agreement
+pub mod Replay
+pub mod Examples

@@ -1,0 +1,75 @@
+-- What a replay promises: its answer, and every lent entry afterwards.
+use mathlib.Core.Path.{_≡_}
+use Prim.Native.Nat.{ℕ, zero, suc}
+use mathlib.Core.Bool.{true, false, cond}
+use mathlib.Core.List.{List, []}
+use lib.Dec.{eqb}
+use lib.ListN.{length, drop}
+use Rattle.counting.specs.Block.{validSize}
+use Rattle.counting.specs.Recorded.{started, fedAll}
+use Rattle.counting.specs.Recording.{recording, refusalsFrom, blocksIn, recordedBit}
+use Rattle.layers.specs.Size.{storeRefusal}
+use Rattle.searching.specs.Claim.{Best}
+use Rattle.searching.specs.Finding.{winnerOf, findingOf, noFinding}
+use Rattle.searching.specs.Refusal.{orElse, widthRefusal, bufferRefusal}
+use Rattle.searching.specs.Search.{binsAfter, orderAfter, freeAfter}
+use Rattle.searching.specs.declared.finding.Finding.{Finding}
+use Rattle.counting.specs.Sample.{total}
+use Rattle.replay.specs.Pieces.{cut, refusedIn}
+use Rattle.replay.specs.declared.replay.Replayed.{Replayed}
+
+-- 24: the lengths do not add up to the recording's; then start's 1, and the searches' 2, 3, 7. A fresh sampler is never refused 4, a feed that is refused
+-- 5 is counted, and stores that do not suffice (6) leave the layered search out.
+unfoldable pub replayRefusal : ℕ → ℕ → List ℕ → ℕ → ℕ → ℕ → ℕ
+replayRefusal B bytes lengths k bins order =
+    cond (eqb (total lengths) bytes) (cond (validSize B) (orElse (widthRefusal B k) (bufferRefusal k bins order)) 1) 24
+
+-- beside a refusal every field is 0 or false
+abbrev pub refusedReplay : ℕ → Replayed
+refusedReplay r = record { refusal = r; refused = 0; layered = false; agree = false; finding = noFinding }
+
+-- the finding of width k in a recording that holds `held`
+abbrev pub heldFinding : ℕ → List ℕ → ℕ → Finding
+heldFinding B held k =
+    findingOf (recordedBit B held) (blocksIn B held) B (winnerOf (recordedBit B held) (blocksIn B held) B k)
+
+-- the answer, with the refusal r and stores of a and b entries: what the plain recording of the pieces says, and that the findings agree
+abbrev pub replayedOf : ℕ → ℕ → ℕ → List (List ℕ) → ℕ → ℕ → ℕ → Replayed
+replayedOf zero B words pieces k a b =
+    record {
+      refusal = 0;
+      refused = refusedIn (refusalsFrom B words [] pieces);
+      layered = eqb (storeRefusal B k a b) 0;
+      agree = true;
+      finding = heldFinding B (recording B words pieces) k;
+    }
+replayedOf (suc r) B words pieces k a b = refusedReplay (suc r)
+
+-- the words afterwards: those after start and all feeds; as lent where refused
+abbrev pub wordsAfter : ℕ → ℕ → List ℕ → List (List ℕ) → List ℕ
+wordsAfter zero B ws pieces = fedAll (started B ws) pieces .words
+wordsAfter (suc r) B ws pieces = ws
+
+-- A replay of the pieces with the refusal r: its answer and everything lent afterwards.
+pub record ReplayOf (r B : ℕ) (pieces : List (List ℕ)) (k : ℕ) (ws first second bins order : List ℕ) (answer : Replayed)
+    (ws′ first′ second′ bins′ order′ : List ℕ) : Type 0 where
+  pub answered : answer ≡ replayedOf r B (length ws) pieces k (length first) (length second)
+  pub written : ws′ ≡ wordsAfter r B ws pieces
+  -- the winner's counts and order, and past them as lent; all as lent where refused
+  pub counted :
+      let held = recording B (length ws) pieces in
+      bins′ ≡ binsAfter r (recordedBit B held) (blocksIn B held) B k bins
+  pub ordered :
+      let held = recording B (length ws) pieces in
+      order′ ≡ orderAfter r (recordedBit B held) (blocksIn B held) B k order
+  -- where the layered search ran the first W entries of each store are free, and the rest as lent; all as lent where it did not
+  pub kept :
+      let free = freeAfter (orElse r (storeRefusal B k (length first) (length second))) B k in
+      (drop free first′ ≡ drop free first) × (drop free second′ ≡ drop free second)
+  -- the claim's conclusion: what was found is the best of the recording
+  pub best : r ≡ 0 → Best B (recording B (length ws) pieces) k (answer .finding) bins′ order′
+
+-- What `replay` promises.
+abbrev pub Replay : ℕ → List ℕ → List ℕ → ℕ → List ℕ → List ℕ → List ℕ → List ℕ → List ℕ → Replayed → List ℕ → List ℕ → List ℕ → List ℕ → List ℕ → Type 0
+Replay B bytes lengths k ws first second bins order =
+    ReplayOf (replayRefusal B (length bytes) lengths k (length bins) (length order)) B (cut bytes lengths) k ws first second bins order

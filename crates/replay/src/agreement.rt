@@ -1,0 +1,52 @@
+// Whether two searches found the same.
+ghost use mathlib.Core.Path.{_≡_};
+ghost use Rattle.replay.specs.Agreement.{sameTo, sameFinding, agreeOf};
+use searching::finding::Finding;
+use searching::finding::Searched;
+
+// Whether the findings of the two searches are the same; true where the layered one did not run.
+pub fn agreeing(layered: Searched, direct: Searched) -> bool
+    ensures { λ r. ⌜ r ≡ agreeOf layered direct ⌝ }
+{
+    if layered.refusal != 0 {
+        return true;
+    }
+    let a = layered.finding;
+    let b = direct.finding;
+    same_finding(a, b)
+}
+
+// Whether two findings are the same in every field.
+pub fn same_finding(a: Finding, b: Finding) -> bool
+    ensures { λ r. ⌜ r ≡ sameFinding a b ⌝ }
+{
+    if a.block_size != b.block_size {
+        return false;
+    }
+    if a.width != b.width {
+        return false;
+    }
+    if a.division != b.division {
+        return false;
+    }
+    let x = a.bits;
+    let y = b.bits;
+    if !same_bits(x, y) {
+        return false;
+    }
+    a.z == b.z
+}
+
+// Whether all 20 entries are the same.
+fn same_bits(a: [u32; 20], b: [u32; 20]) -> bool
+    ensures { λ r. ⌜ r ≡ sameTo a b 20 ⌝ }
+{
+    let mut i: usize = 0;
+    while i < 20 {
+        if a[i] != b[i] {
+            return false;
+        }
+        i += 1;
+    }
+    true
+}

@@ -1,0 +1,130 @@
+// The replay of a recording, as a caller meets it.
+ghost use mathlib.Core.Path.{_≡_};
+ghost use lib.ListN.{length};
+ghost use Rattle.searching.specs.Refusal.{searchRefusal};
+ghost use Rattle.searching.specs.Search.{LayeredSearch};
+ghost use Rattle.replay.specs.Replay.{refusedReplay, replayRefusal, Replay};
+use crate::agreement::agreeing;
+use crate::pieces::adds_up;
+use crate::pieces::feed_pieces;
+use counting::block::valid_block_size;
+use counting::sampling::Sampler;
+use counting::sampling::start;
+use layers::size::store_refusal;
+use searching::finding::Finding;
+use searching::finding::Searched;
+use searching::finding::refused;
+use searching::search::brute_force;
+use searching::search::brute_force_threads;
+use searching::search::buffer_refusal;
+use searching::search::width_refusal;
+
+// What a replay answers: a refusal, 0 where there is none, how many feeds were refused, whether the layered search ran, whether the two findings are the
+// same (true where only the direct search ran), and the finding.
+pub struct Replayed {
+    pub refusal: u32,
+    pub refused: usize,
+    pub layered: bool,
+    pub agree: bool,
+    pub finding: Finding,
+}
+
+// Feeds a recording in pieces of the given lengths to a fresh sampler of the words, and searches it: by layers where the stores suffice, and directly.
+// Refusals 24 (the lengths do not add up to the recording's), 1, 2, 3, 7, all before anything is written.
+pub fn replay(
+    block_size: usize,
+    recording: &[u8],
+    lengths: &[usize],
+    k: usize,
+    words: &mut [u64],
+    first: &mut [u32],
+    second: &mut [u32],
+    bins: &mut [u32],
+    order: &mut [u32],
+) -> Replayed
+    ensures { λ r. ⌜ Replay «block_size» (now (recording .entry)) (now (lengths .entry)) k (now (words .entry)) (now (first .entry)) (now (second .entry)) (now (bins .entry)) (now (order .entry)) r (now (words .exit)) (now (first .exit)) (now (second .exit)) (now (bins .exit)) (now (order .exit)) ⌝ }
+{
+    let refusal = replay_refusal(
+        block_size,
+        recording.len(),
+        lengths,
+        k,
+        bins.len(),
+        order.len(),
+    );
+    if refusal != 0 {
+        return refused_replay(refusal);
+    }
+    let started = start(block_size, words);
+    let taken = feed_pieces(started.sampler, words, recording, lengths);
+    let layered = search_layered(taken.sampler, words, k, first, second, bins, order);
+    let direct = brute_force_threads(taken.sampler, words, k, bins, order);
+    let agree = agreeing(layered, direct);
+    let finding = direct.finding;
+    Replayed {
+        refusal: 0,
+        refused: taken.refused,
+        layered: layered.refusal == 0,
+        agree,
+        finding,
+    }
+}
+
+// The layered search where the stores suffice. Else it is not made, and the answer is what it would refuse with, 6.
+fn search_layered(
+    sampler: Sampler,
+    words: &[u64],
+    k: usize,
+    first: &mut [u32],
+    second: &mut [u32],
+    bins: &mut [u32],
+    order: &mut [u32],
+) -> Searched
+    requires { ⌜ searchRefusal sampler (length (now words)) k ≡ 0 ⌝ }
+    ensures { λ r. ⌜ LayeredSearch sampler (now (words .entry)) k (now (first .entry)) (now (second .entry)) (now (bins .entry)) (now (order .entry)) r (now (first .exit)) (now (second .exit)) (now (bins .exit)) (now (order .exit)) ⌝ }
+{
+    let short = store_refusal(sampler.block_size, k, first.len(), second.len());
+    if short != 0 {
+        return refused(short);
+    }
+    brute_force(sampler, words, k, first, second, bins, order)
+}
+
+// 24, 1, 2, 3, 7, or 0 where a recording of `recording` bytes can be replayed.
+fn replay_refusal(
+    block_size: usize,
+    recording: usize,
+    lengths: &[usize],
+    k: usize,
+    bins: usize,
+    order: usize,
+) -> u32
+    ensures { λ r. ⌜ r ≡ replayRefusal «block_size» recording (now (lengths .entry)) k bins order ⌝ }
+{
+    if !adds_up(lengths, recording) {
+        return 24;
+    }
+    if !valid_block_size(block_size) {
+        return 1;
+    }
+    let refusal = width_refusal(block_size, k);
+    if refusal != 0 {
+        return refusal;
+    }
+    buffer_refusal(k, bins, order)
+}
+
+// A refusal, and every other field 0 or false.
+fn refused_replay(refusal: u32) -> Replayed
+    ensures { λ r. ⌜ r ≡ refusedReplay refusal ⌝ }
+{
+    let searched = refused(refusal);
+    let finding = searched.finding;
+    Replayed {
+        refusal,
+        refused: 0,
+        layered: false,
+        agree: false,
+        finding,
+    }
+}
