@@ -1,0 +1,145 @@
+-- A finding evaluated on the recording that it was found in (`findings-agree`), and so after every session (`all-agree`).
+use mathlib.Core.Path.{_≡_, refl, sym, ap, _∙_, subst}
+use mathlib.Core.Bool.{Bool, true, false, cond}
+use mathlib.Core.List.{List}
+use Prim.Native.Nat.{ℕ, zero, suc, _^_, _≤_, _<_}
+use native.Mathlib.Nat.{le-trans, min-le-right}
+use native.Mathlib.Omega.{arith}
+use lib.ListN.{length, take}
+use borrow.Author.Tests.{le-leb, lt-ltb, eq-eqb}
+use Rattle.counting.specs.Block.{validSize}
+use Rattle.counting.specs.Recording.{recording, blocksIn, recordedBit}
+use Rattle.counting.specs.Sample.{total}
+use Rattle.counting.specs.Sampling.{startedOf}
+use Rattle.counting.specs.declared.sampling.Sampler.{Sampler}
+use Rattle.counting.specs.declared.sampling.Started.{Started}
+use Rattle.counting.proofs.Accepted.{valid-facts, room-blocks}
+use Rattle.counting.proofs.Recorded.{all-recorded}
+use Rattle.scoring.specs.Halves.{part}
+use Rattle.scoring.specs.Score.{zScore, abs}
+use Rattle.ranking.specs.Order.{orderOf}
+use Rattle.ranking.specs.Ranking.{inBinOrder, sizeAt}
+use Rattle.ranking.proofs.Dividing.{score-low, score-high, score-is-ranking}
+use Rattle.ranking.proofs.Sorting.{order-permutes}
+use Rattle.ranking.proofs.Totals.{order-length}
+use Rattle.subsets.specs.Bits.{validWidth}
+use Rattle.subsets.proofs.Testing.{not-refused}
+use Rattle.searching.proofs.Filled.{length-counts}
+use Rattle.searching.proofs.Refusing.{direct-free, layered-free}
+use Rattle.searching.proofs.Claiming.{claims}
+use Rattle.searching.specs.Claim.{Session, fresh, next, Best}
+use Rattle.searching.specs.Refusal.{directRefusal, layeredRefusal}
+use Rattle.searching.specs.Search.{answerOf, sampleOf, blocksOf}
+use Rattle.searching.specs.declared.finding.Searched.{Searched}
+use Rattle.searching.specs.declared.finding.Finding.{Finding}
+use Rattle.judging.specs.Permutation.{eachOnce, Permutation}
+use Rattle.judging.specs.Check.{chosen, limitRefusal, lengthRefusal, shapeRefusal, scratchRefusal, divisionRefusal, orderRefusal}
+use Rattle.judging.specs.Evaluation.{countsIn, positiveOf, positiveIn, zIn, blocksRefusal, earlyRefusal, evaluationRefusal}
+use Rattle.judging.specs.Agreement.{FindingsAgree, AllAgree}
+use Rattle.judging.proofs.Once.{once-permutes}
+
+valid-width : (k : ℕ) → 1 ≤ k → k ≤ 20 → validWidth k ≡ true
+unfolding validWidth
+valid-width k low high = rw (le-leb 1 k low, le-leb k 20 high) refl
+
+module _ (B : ℕ) (held : List ℕ) (k : ℕ) (f : Finding) (bins order : List ℕ) (scratch : ℕ)
+    (W : validSize B ≡ true) (K : 1 ≤ k) (L : k ≤ 20) (M : blocksIn B held ≤ 16777216) (S : 2 ^ k ≤ scratch)
+    (best : Best B held k f bins order) where
+  abbrev counts : List ℕ
+  counts = take (2 ^ k) bins
+
+  abbrev order′ : List ℕ
+  order′ = take (2 ^ k) order
+
+  counted : countsIn f held ≡ counts
+  counted = rw (best .block, best .width) (sym (best .counted))
+
+  counts-length : length counts ≡ 2 ^ k
+  counts-length =
+      ap length (best .counted) ∙ length-counts (recordedBit B held) (blocksIn B held) (take k (f .bits)) ∙ ap (λ (w : ℕ). 2 ^ w) (best .chosen .size)
+
+  listed : length order′ ≡ 2 ^ k
+  listed = ap length (best .ordered) ∙ order-length counts ∙ counts-length
+
+  -- ---- nothing is refused
+
+  shape-none : shapeRefusal f (length order′) ≡ 0
+  unfolding shapeRefusal limitRefusal lengthRefusal
+  shape-none =
+      rw (best .block, best .width, W, valid-width k K L, not-refused B k (take k (f .bits)) (best .chosen), eq-eqb (length order′) (2 ^ k) listed) refl
+
+  once : eachOnce (2 ^ k) order′ ≡ true
+  once =
+      once-permutes (2 ^ k) order′ listed .1
+      (subst (Permutation (2 ^ k)) (sym (best .ordered)) (subst (λ (m : ℕ). Permutation m (orderOf counts)) counts-length (order-permutes counts)))
+
+  order-none : orderRefusal (f .width) (f .division) order′ ≡ 0
+  unfolding orderRefusal divisionRefusal
+  order-none =
+      let low : 1 ≤ f .division = rw (best .division) (score-low (blocksIn B held) k counts) in
+      let high : f .division < 2 ^ k = rw (best .division) (score-high (blocksIn B held) k counts K) in
+      rw (best .width, once, le-leb 1 (f .division) low, lt-ltb (f .division) (2 ^ k) high) refl
+
+  none : evaluationRefusal f order′ held scratch ≡ 0
+  unfolding evaluationRefusal earlyRefusal blocksRefusal scratchRefusal
+  none = rw (shape-none, order-none, best .block, best .width, le-leb (blocksIn B held) 16777216 M, le-leb (2 ^ k) scratch S) refl
+
+  -- ---- the sum and the score
+
+  summed : positiveIn f order′ held ≡ total (take (f .division) (inBinOrder counts))
+  unfolding positiveOf inBinOrder
+  summed = ap (λ (c : List ℕ). positiveOf c order′ (f .division)) counted ∙ ap (λ (o : List ℕ). positiveOf counts o (f .division)) (best .ordered)
+
+  scored : 1 ≤ blocksIn B held → abs (zIn f order′ held) ≡ f .z
+  unfolding sizeAt
+  scored N =
+      let n = blocksIn B held in
+      let r = score-is-ranking n k counts N M K L in
+      ap (λ (m : ℕ). abs (zScore (blocksIn m held) (positiveIn f order′ held) (part (f .division) (f .width)))) (best .block)
+      ∙ ap (λ (w : ℕ). abs (zScore n (positiveIn f order′ held) (part (f .division) w))) (best .width)
+      ∙ ap (λ (c : ℕ). abs (zScore n c (part (f .division) k))) summed
+      ∙ ap (sizeAt n k (inBinOrder counts)) (best .division) ∙ sym (r .attained) ∙ sym (best .z)
+
+pub findings-agree : FindingsAgree
+findings-agree B held k f bins order scratch W K L M S best =
+    record {
+      taken = none B held k f bins order scratch W K L M S best;
+      counts = counted B held k f bins order scratch W K L M S best;
+      positive = summed B held k f bins order scratch W K L M S best;
+      score = scored B held k f bins order scratch W K L M S best;
+    }
+
+-- ---- after a session
+
+started-valid : (t : Bool) (a b : Started) → b .refusal ≡ 1 → cond t a b .refusal ≡ 0 → t ≡ true
+started-valid true a b one e = refl
+started-valid false a b one e = absurd (omega (arith, one, e))
+
+session-valid : {B : ℕ} {ws : List ℕ} {pieces : List (List ℕ)} {answers : List ℕ} {s : Sampler} {ws′ : List ℕ} → Session B ws pieces answers s ws′ → validSize B ≡ true
+unfolding startedOf
+session-valid {B} (fresh r ws′ is left none) = started-valid (validSize B) _ _ refl (sym (ap (λ (a : Started). a .refusal) is) ∙ none)
+session-valid (next session piece r ws″ is left) = session-valid session
+
+-- the refusal that a search answers
+said : (d : ℕ) (bit : ℕ → ℕ → ℕ) (n B k : ℕ) (r : Searched) → r ≡ answerOf d bit n B k → r .refusal ≡ 0 → d ≡ 0
+said zero bit n B k r e z = refl
+said (suc d) bit n B k r e z = sym (ap (λ (a : Searched). a .refusal) e) ∙ z
+
+pub all-agree : AllAgree
+all-agree B ws pieces answers s ws′ session =
+    let claim = claims B ws pieces answers s ws′ session in
+    let valid = session-valid session in
+    let held = recording B (length ws) pieces in
+    let few : blocksIn B held ≤ 16777216 =
+    le-trans (room-blocks B (length ws) (length held) (valid-facts B valid) (all-recorded B ws valid pieces .holds .within)) (min-le-right _ _) in
+    record {
+      direct = λ k bins order r bins′ order′ S z scratch room.
+          let d = directRefusal s (length ws′) k (length bins) (length order) in
+          let w = direct-free s (length ws′) k (length bins) (length order) (said d (sampleOf s ws′) (blocksOf s) (s .«block_size») k r (S .answered) z) .search .width in
+          findings-agree B held k (r .finding) bins′ order′ scratch valid (w .some) (w .width) few room (claim .direct k bins order r bins′ order′ S .best z);
+      layered = λ k first second bins order r first′ second′ bins′ order′ S z scratch room.
+          let d = layeredRefusal s (length ws′) k (length first) (length second) (length bins) (length order) in
+          let w =
+          layered-free s (length ws′) k (length first) (length second) (length bins) (length order) (said d (sampleOf s ws′) (blocksOf s) (s .«block_size») k r (S .search .answered) z) .search .width in
+          findings-agree B held k (r .finding) bins′ order′ scratch valid (w .some) (w .width) few room (claim .layered k first second bins order r first′ second′ bins′ order′ S .best z);
+    }

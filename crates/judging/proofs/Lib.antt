@@ -1,0 +1,11 @@
+-- Laws that the functions' proofs cite, and the theorems.
+pub mod Marking
+pub mod Checking
+pub mod Once
+pub mod Tallying
+pub mod Evaluating
+pub mod Agreeing
+pub mod Splitting
+pub mod Planning
+pub mod Sweeping
+pub mod Examples

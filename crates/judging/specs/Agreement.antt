@@ -1,0 +1,50 @@
+-- A finding evaluated on the very recording that it was found in.
+use mathlib.Core.Path.{_≡_}
+use mathlib.Core.Bool.{true}
+use mathlib.Core.List.{List}
+use Prim.Native.Nat.{ℕ, _^_, _≤_}
+use lib.ListN.{length, take}
+use Rattle.counting.specs.Block.{validSize}
+use Rattle.counting.specs.Recording.{blocksIn, recording}
+use Rattle.counting.specs.Sample.{total}
+use Rattle.counting.specs.declared.sampling.Sampler.{Sampler}
+use Rattle.ranking.specs.Ranking.{inBinOrder}
+use Rattle.scoring.specs.Score.{abs}
+use Rattle.searching.specs.Claim.{Session, Best}
+use Rattle.searching.specs.Search.{DirectSearch, LayeredSearch}
+use Rattle.searching.specs.declared.finding.Finding.{Finding}
+use Rattle.searching.specs.declared.finding.Searched.{Searched}
+use Rattle.judging.specs.Evaluation.{countsIn, positiveIn, zIn, evaluationRefusal}
+
+-- What an evaluation of f makes of the recording that holds `held`, where the search left f, its counts and its order in the buffers.
+pub record Agrees (B : ℕ) (held : List ℕ) (k : ℕ) (f : Finding) (bins order : List ℕ) (scratch : ℕ) : Type 0 where
+  -- nothing is refused
+  pub taken : evaluationRefusal f (take (2 ^ k) order) held scratch ≡ 0
+  -- the counts are those that the search left
+  pub counts : countsIn f held ≡ take (2 ^ k) bins
+  -- positive is the sum of the first division of them in bin order
+  pub positive : positiveIn f (take (2 ^ k) order) held ≡ total (take (f .division) (inBinOrder (take (2 ^ k) bins)))
+  -- |z| is the finding's score, where there is a block
+  pub score : 1 ≤ blocksIn B held → abs (zIn f (take (2 ^ k) order) held) ≡ f .z
+
+-- Theorem: that holds of every best finding of a recording.
+abbrev pub FindingsAgree : Type 0
+FindingsAgree =
+    (B : ℕ) (held : List ℕ) (k : ℕ) (f : Finding) (bins order : List ℕ) (scratch : ℕ)
+    → validSize B ≡ true → 1 ≤ k → k ≤ 20 → blocksIn B held ≤ 16777216 → 2 ^ k ≤ scratch
+    → Best B held k f bins order → Agrees B held k f bins order scratch
+
+-- Theorem: it holds of what each search leaves after a start that is not refused and any feeds, where the search is not refused.
+pub record SearchesAgree (B : ℕ) (ws : List ℕ) (pieces : List (List ℕ)) (s : Sampler) (ws′ : List ℕ) : Type 0 where
+  pub direct :
+      (k : ℕ) (bins order : List ℕ) (r : Searched) (bins′ order′ : List ℕ) → DirectSearch s ws′ k bins order r bins′ order′ → r .refusal ≡ 0
+      → (scratch : ℕ) → 2 ^ k ≤ scratch → Agrees B (recording B (length ws) pieces) k (r .finding) bins′ order′ scratch
+  pub layered :
+      (k : ℕ) (first second bins order : List ℕ) (r : Searched) (first′ second′ bins′ order′ : List ℕ)
+      → LayeredSearch s ws′ k first second bins order r first′ second′ bins′ order′ → r .refusal ≡ 0
+      → (scratch : ℕ) → 2 ^ k ≤ scratch → Agrees B (recording B (length ws) pieces) k (r .finding) bins′ order′ scratch
+
+abbrev pub AllAgree : Type 0
+AllAgree =
+    (B : ℕ) (ws : List ℕ) (pieces : List (List ℕ)) (answers : List ℕ) (s : Sampler) (ws′ : List ℕ)
+    → Session B ws pieces answers s ws′ → SearchesAgree B ws pieces s ws′
