@@ -1,0 +1,147 @@
+-- What an input that is not refused has: halves that can be searched and judged, and three lines.
+use mathlib.Core.Path.{_≡_, refl, sym, ap, _∙_}
+use mathlib.Core.Bool.{Bool, true, false, cond}
+use mathlib.Core.List.{List, [], _∷_}
+use Prim.Native.Nat.{ℕ, zero, suc, _+_, _-_, _*_, _/_, _^_, _≤_, _<_}
+use native.Mathlib.Nat.{mul-le-mul-right, mul-div-cancel, pow-le-pow-right}
+use native.Mathlib.Omega.{arith}
+use lib.Ieee.{toBits, binary64}
+use lib.ListN.{length, take, drop, length-take, length-drop}
+use lib.Seq.{length-take-le}
+use borrow.Author.Tests.{eq-eqb}
+use Rattle.counting.specs.Block.{validSize}
+use Rattle.counting.specs.Recording.{blockBytes, blocksIn}
+use Rattle.counting.proofs.Accepted.{valid-facts}
+use Rattle.subsets.specs.Bits.{validWidth}
+use Rattle.subsets.proofs.Refusing.{width-bounds}
+use Rattle.searching.proofs.Refusing.{neither}
+use Rattle.judging.specs.Split.{splitRefusal, firstBlocks, firstPart, secondPart}
+use Rattle.judging.proofs.Splitting.{splits, blocks-end, rest-bytes}
+use Rattle.sheet.specs.Columns.{line}
+use Rattle.sheet.specs.Header.{blockSizeOf, widthOf, rawOf, inputRefusal}
+use Rattle.sheet.specs.Lines.{threeLines}
+use Rattle.sheet.specs.Training.{chosenOf}
+use Rattle.sheet.specs.Judgement.{judgedOf, linesOf, Judgeable}
+use Rattle.sheet.specs.Refusal.{sheetRefusal}
+use Rattle.sheet.specs.Sheet.{trainingOf, testingOf, sheetWith, sheetOf}
+use Rattle.sheet.specs.declared.judgement.Judged.{Judged}
+use Rattle.sheet.proofs.Reading.{Taken, taken}
+use Rattle.sheet.proofs.Writing.{length-lines}
+use Rattle.sheet.proofs.Evaluating.{chosen-subset, bits-are}
+
+-- ---- the halves
+
+passed : (t : Bool) (x r : ℕ) → 0 < r → cond t x r ≡ 0 → (t ≡ true) × (x ≡ 0)
+passed true x r pos e = (refl, e)
+passed false x r pos e = absurd (omega arith)
+
+module _ (raw : List ℕ) (B : ℕ) (ok : splitRefusal raw B ≡ 0) where
+  abbrev m : ℕ
+  m = blocksIn B raw
+
+  abbrev w : ℕ
+  w = blockBytes B
+
+  size-valid : validSize B ≡ true
+  unfolding splitRefusal
+  size-valid = let pos : 0 < 1 = omega arith in passed (validSize B) _ 1 pos ok .0
+
+  half : 2 * (m / 2 * w) ≤ m * w
+  half = let h : 2 * (m / 2) ≤ m = omega arith in omega (arith, mul-le-mul-right w h)
+
+  first-length : length (firstPart raw B true) ≤ m / 2 * w
+  unfolding firstPart firstBlocks
+  first-length = simp (eq-eqb _ _ ok) (omega (arith, length-take (m / 2 * w) raw))
+
+  second-length : length (secondPart raw B true) ≡ (m - m / 2) * w
+  unfolding secondPart firstBlocks
+  second-length =
+      let h : m / 2 ≤ m = omega arith in
+      let fits : (m - m / 2) * w ≤ length (drop (m / 2 * w) raw) =
+      omega (arith, length-drop (m / 2 * w) raw, rest-bytes m (m / 2) w h, blocks-end raw B) in
+      simp (eq-eqb _ _ ok) (length-take-le ((m - m / 2) * w) (drop (m / 2 * w) raw) fits)
+
+  second-blocks : 1 ≤ blocksIn B (secondPart raw B true)
+  second-blocks =
+      let v = splits raw B ok in
+      let pos : 0 < w = omega arith in
+      rw (second-length, mul-div-cancel (m - m / 2) pos) (omega arith)
+
+  second-few : length (secondPart raw B true) ≤ m * w
+  second-few = let h : m - m / 2 ≤ m = omega arith in omega (arith, second-length, mul-le-mul-right w h)
+
+-- ---- an input that is not refused
+
+pub record Accepted (s : List ℕ) : Type 0 where
+  pub taken : Taken s
+  pub split : splitRefusal (rawOf s) (blockSizeOf s) ≡ 0
+  pub some : 1 ≤ widthOf s
+
+pub accepted : (s : List ℕ) → sheetRefusal s ≡ 0 → Accepted s
+unfolding sheetRefusal
+accepted s e =
+    let p = neither (inputRefusal s) _ e in
+    let q = neither (splitRefusal (rawOf s) (blockSizeOf s)) _ (p .1) in
+    let pos : 0 < 2 = omega arith in
+    let r = passed (validWidth (widthOf s)) 0 2 pos (q .1) in
+    record { taken = taken s (p .0); split = q .0; some = width-bounds (widthOf s) (r .0) .0 }
+
+pub judgeable : (s : List ℕ) → Accepted s → Judgeable (blockSizeOf s) (widthOf s) (trainingOf s) (testingOf s)
+judgeable s a =
+    let raw = rawOf s in
+    let B = blockSizeOf s in
+    let ok = a .split in
+    let two : 0 < 2 = omega arith in
+    let room : 2 ^ widthOf s ≤ 2 ^ 8 = pow-le-pow-right two (a .taken .width) in
+    let bins : 2 ^ widthOf s ≤ 256 = omega arith in
+    let few : length (trainingOf s) ≤ 4096 = omega (arith, first-length raw B ok, half raw B ok, blocks-end raw B, a .taken .raw) in
+    record {
+      trainable = record { valid = size-valid raw B ok; block = a .taken .block; some = a .some; width = a .taken .width; few = few; room = (bins, bins) };
+      some = second-blocks raw B ok;
+      few = omega (arith, second-few raw B ok, blocks-end raw B, a .taken .raw);
+    }
+
+-- the same of what equals B, k and the halves
+pub judgeable-as : {B B′ k k′ : ℕ} {training training′ testing testing′ : List ℕ} → B ≡ B′ → k ≡ k′ → training ≡ training′ → testing ≡ testing′
+    → Judgeable B′ k′ training′ testing′ → Judgeable B k training testing
+judgeable-as p q r u j = rw (p, q, r, u) j
+
+-- ---- its lines
+
+module _ (B k : ℕ) (training testing : List ℕ) (g : Judgeable B k training testing) where
+  low : 8 ≤ B
+  low = valid-facts B (g .trainable .valid) .low
+
+  wide : k ≤ 20
+  wide = omega (arith, g .trainable .width)
+
+  fits : k ≤ B
+  fits = omega (arith, g .trainable .width, low)
+
+  pub lines-are : (j : Judged) → j ≡ judgedOf B k training testing → (bits : List ℕ) → bits ≡ j .finding .bits
+      → (p q : ℕ) → p ≡ toBits binary64 (j .finding .z) → q ≡ toBits binary64 (j .z)
+      → threeLines (B ∷ k ∷ blocksIn B training ∷ blocksIn B testing ∷ j .finding .division ∷ j .positive ∷ []) (take k bits) (p ∷ q ∷ []) ≡ linesOf B k training testing
+  unfolding linesOf judgedOf
+  lines-are j e bits b p q x y =
+      let chosen : take k bits ≡ chosenOf B k training =
+      ap (take k) (b ∙ ap (λ (i : Judged). i .finding .bits) e) ∙ bits-are B k training (g .trainable .valid) (g .trainable .some) wide fits in
+      let left : p ≡ toBits binary64 (judgedOf B k training testing .finding .z) = x ∙ ap (λ (i : Judged). toBits binary64 (i .finding .z)) e in
+      let right : q ≡ toBits binary64 (judgedOf B k training testing .z) = y ∙ ap (λ (i : Judged). toBits binary64 (i .z)) e in
+      λ i. threeLines (B ∷ k ∷ blocksIn B training ∷ blocksIn B testing ∷ e i .finding .division ∷ e i .positive ∷ []) (chosen i) (left i ∷ right i ∷ [])
+
+  pub lines-length : length (linesOf B k training testing) ≡ 91 + 8 * k
+  unfolding linesOf
+  lines-length =
+      length-lines _ (chosenOf B k training) _ refl refl
+      ∙ ap (λ (n : ℕ). 91 + 8 * n) (chosen-subset B k training (g .trainable .valid) (g .trainable .some) wide fits .size)
+
+-- ---- the sheet
+
+pub sheet-lines : (s : List ℕ) → sheetRefusal s ≡ 0 → sheetOf s ≡ linesOf (blockSizeOf s) (widthOf s) (trainingOf s) (testingOf s)
+unfolding sheetOf
+sheet-lines s e = ap (λ (r : ℕ). sheetWith r s) e
+
+pub sheet-refused : (s : List ℕ) (r : ℕ) → r ≡ sheetRefusal s → (r ≡ 0 → ⊥) → sheetOf s ≡ line 8 (r ∷ [])
+unfolding sheetOf
+sheet-refused s zero e h = absurd (h refl)
+sheet-refused s (suc r) e h = ap (λ (q : ℕ). sheetWith q s) (sym e)

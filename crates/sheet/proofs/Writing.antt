@@ -1,0 +1,208 @@
+-- Laws of numbers in columns and of bytes put into a buffer.
+use mathlib.Core.Path.{_≡_, refl, sym, ap, _∙_}
+use mathlib.Core.List.{List, [], _∷_, _++_, append-assoc, append-nil}
+use Prim.Native.Nat.{ℕ, zero, suc, _+_, _-_, _*_, _/_, _%_, _^_, _≤_, _<_}
+use native.Mathlib.Nat.{mul-le-mul-left, mul-zero, mul-suc, zero-add, add-zero, pow-suc, div-one, div-div-eq-div-mul}
+use native.Mathlib.Numerals.{add-one}
+use native.Mathlib.Omega.{arith}
+use lib.ListN.{length, take, drop, getD, set, length-append, length-drop, take-append-drop}
+use lib.Seq.{take-suc, take-length, length-take-le, drop-cons, set-at, take-at, drop-at, drop-drop, append-snoc, getD-set-same, getD-set-other}
+use Rattle.counting.specs.Sample.{listOf}
+use Rattle.counting.proofs.Counts.{length-list}
+use borrow.Author.Tests.{le-leb, lt-leb, leb-true, eqb-true, eqb-false}
+use lib.Arith.{lt-of-le-ne}
+use lib.Dec.{leb, eqb}
+use mathlib.Core.Bool.{Bool, true, false}
+use Rattle.sheet.specs.Lines.{threeLines, Printed}
+use Rattle.sheet.specs.Columns.{symbol, symbolAt, columns, fields, line, put}
+
+-- ---- characters
+
+pub symbol-last : (i rest : ℕ) → i ≡ 0 → 48 + rest % 10 ≡ symbol i rest
+symbol-last i rest e = rw e
+
+pub symbol-space : (i rest : ℕ) → (i ≡ 0 → ⊥) → rest ≡ 0 → 32 ≡ symbol i rest
+symbol-space zero rest h e = absurd (h refl)
+symbol-space (suc i) rest h e = rw e
+
+pub symbol-digit : (i rest : ℕ) → (i ≡ 0 → ⊥) → (rest ≡ 0 → ⊥) → 48 + rest % 10 ≡ symbol i rest
+symbol-digit zero rest h g = absurd (h refl)
+symbol-digit (suc i) zero h g = absurd (g refl)
+symbol-digit (suc i) (suc rest) h g = refl
+
+-- one place further to the left
+pub shifted-none : (n : ℕ) → n ≡ n / 10 ^ 0
+shifted-none n = sym (div-one n)
+
+pub shifted-more : (n i : ℕ) → n / 10 ^ i / 10 ≡ n / 10 ^ (i + 1)
+shifted-more n i = div-div-eq-div-mul n (10 ^ i) 10 ∙ rw (add-one, pow-suc)
+
+-- ---- lengths
+
+pub length-columns : (w n : ℕ) → length (columns w n) ≡ w
+unfolding columns
+length-columns w n = length-list w (λ i. symbolAt n (w - 1 - i))
+
+pub length-fields : (w : ℕ) (ns : List ℕ) → length (fields w ns) ≡ w * length ns
+unfolding fields
+length-fields w [] = sym (mul-zero w)
+length-fields w (n ∷ ns) =
+    length-append (columns w n) (fields w ns) ∙ rw (length-columns w n, length-fields w ns) (omega (arith, mul-suc w (length ns)))
+
+pub length-line : (w : ℕ) (ns : List ℕ) → length (line w ns) ≡ w * length ns + 1
+unfolding line
+length-line w ns = length-append (fields w ns) (10 ∷ []) ∙ rw (length-fields w ns)
+
+-- ---- one more
+
+pub list-more : (m : ℕ) (f : ℕ → ℕ) → listOf (m + 1) f ≡ listOf m f ++ (f m ∷ [])
+unfolding listOf
+list-more m f = rw add-one
+
+pub fields-more : (w : ℕ) (ns : List ℕ) (n : ℕ) → fields w (ns ++ (n ∷ [])) ≡ fields w ns ++ columns w n
+unfolding fields
+fields-more w [] n = append-nil (columns w n)
+fields-more w (m ∷ ns) n = ap (λ (s : List ℕ). columns w m ++ s) (fields-more w ns n) ∙ sym (append-assoc (columns w m) (fields w ns) (columns w n))
+
+-- ---- bytes put into a buffer
+
+length-head : (out : List ℕ) (at : ℕ) (s : List ℕ) → at ≤ length out → length (take at out ++ s) ≡ at + length s
+length-head out at s h = length-append (take at out) s ∙ rw (length-take-le at out h)
+
+pub put-none : (out : List ℕ) (at : ℕ) → put out at [] ≡ out
+unfolding put
+put-none out at = simp (append-nil, add-zero) (take-append-drop at out)
+
+pub length-put : (out : List ℕ) (at : ℕ) (s : List ℕ) → at + length s ≤ length out → length (put out at s) ≡ length out
+unfolding put
+length-put out at s h =
+    let a : at ≤ length out = omega arith in
+    length-append (take at out ++ s) (drop (at + length s) out) ∙ rw (length-head out at s a, length-drop (at + length s) out) (omega arith)
+
+pub put-more : (out : List ℕ) (at : ℕ) (s : List ℕ) (x m : ℕ) → at + length s ≡ m → m < length out → set (put out at s) m x ≡ put out at (s ++ (x ∷ []))
+unfolding put
+put-more out at s x m e h =
+    let a : at ≤ length out = omega arith in
+    let last : at + length (s ++ (x ∷ [])) ≡ suc m = rw length-append (omega arith) in
+    ap (λ (k : ℕ). set (take at out ++ s ++ drop k out) m x) e
+    ∙ ap (λ (r : List ℕ). set (take at out ++ s ++ r) m x) (drop-cons out m 0 h)
+    ∙ set-at (take at out ++ s) (getD out m 0) (drop (suc m) out) x m (length-head out at s a ∙ e)
+    ∙ sym (append-snoc (take at out ++ s) x (drop (suc m) out))
+    ∙ ap (λ (r : List ℕ). r ++ drop (suc m) out) (append-assoc (take at out) s (x ∷ []))
+    ∙ ap (λ (k : ℕ). take at out ++ (s ++ (x ∷ [])) ++ drop k out) (sym last)
+
+pub put-put : (out : List ℕ) (at : ℕ) (s t : List ℕ) (m : ℕ) → at + length s ≡ m → m ≤ length out → put (put out at s) m t ≡ put out at (s ++ t)
+unfolding put
+put-put out at s t m e h =
+    let a : at ≤ length out = omega arith in
+    let P = take at out ++ s in
+    let Q = drop (at + length s) out in
+    let here : length P ≡ m = length-head out at s a ∙ e in
+    let all : at + length (s ++ t) ≡ at + length s + length t = rw length-append (omega arith) in
+    ap (λ (r : List ℕ). r ++ t ++ drop (m + length t) (P ++ Q)) (take-at P Q m here)
+    ∙ ap (λ (r : List ℕ). P ++ t ++ r) (sym (drop-drop (length t) m (P ++ Q)) ∙ ap (drop (length t)) (drop-at P Q m here) ∙ drop-drop (length t) (at + length s) out)
+    ∙ ap (λ (r : List ℕ). r ++ drop (at + length s + length t) out) (append-assoc (take at out) s t)
+    ∙ ap (λ (k : ℕ). take at out ++ (s ++ t) ++ drop k out) (sym all)
+
+-- ---- a field, character by character
+
+-- the first i characters of n's w columns
+abbrev pub front : ℕ → ℕ → ℕ → List ℕ
+front w n i = listOf i (λ j. symbolAt n (w - 1 - j))
+
+pub front-none : (out : List ℕ) (at w n : ℕ) → out ≡ put out at (front w n 0)
+unfolding listOf
+front-none out at w n = sym (put-none out at)
+
+pub front-more : (out : List ℕ) (at w n i : ℕ) → at + i < length out
+    → set (put out at (front w n i)) (at + i) (symbolAt n (w - 1 - i)) ≡ put out at (front w n (i + 1))
+front-more out at w n i h =
+    let f : ℕ → ℕ = λ j. symbolAt n (w - 1 - j) in
+    put-more out at (front w n i) (f i) (at + i) (rw length-list) h ∙ ap (put out at) (sym (list-more i f))
+
+pub front-all : (out : List ℕ) (at w n : ℕ) → put out at (front w n w) ≡ put out at (columns w n)
+unfolding columns
+front-all out at w n = refl
+
+-- ---- a line, field by field
+
+pub fields-none : (out : List ℕ) (at w : ℕ) (ns : List ℕ) → out ≡ put out at (fields w (take 0 ns))
+unfolding fields
+fields-none out at w ns = sym (put-none out at)
+
+-- w more columns are left for field i
+pub room-more : (at w i m all : ℕ) → at + w * m ≤ all → i < m → at + w * i + w ≤ all
+room-more at w i m all h l = let g : suc i ≤ m = l in omega (arith, mul-le-mul-left w g, mul-suc w i)
+
+pub place-more : (at w i : ℕ) → at + w * i + w ≡ at + w * (i + 1)
+place-more at w i = rw add-one (omega (arith, mul-suc w i))
+
+pub fields-next : (out : List ℕ) (at w : ℕ) (ns : List ℕ) (i : ℕ) → i < length ns → at + w * length ns ≤ length out
+    → put (put out at (fields w (take i ns))) (at + w * i) (columns w (getD ns i 0)) ≡ put out at (fields w (take (i + 1) ns))
+fields-next out at w ns i h room =
+    let before : i ≤ length ns = omega arith in
+    let here : at + length (fields w (take i ns)) ≡ at + w * i = rw (length-fields, length-take-le i ns before) in
+    let fit : at + w * i ≤ length out = omega (arith, room-more at w i (length ns) (length out) room h) in
+    put-put out at (fields w (take i ns)) (columns w (getD ns i 0)) (at + w * i) here fit
+    ∙ ap (put out at) (sym (fields-more w (take i ns) (getD ns i 0)) ∙ ap (fields w) (sym (take-suc ns i 0 h) ∙ rw add-one))
+
+pub fields-all : (out : List ℕ) (at w : ℕ) (ns : List ℕ) (i : ℕ) → i ≡ length ns → put out at (fields w (take i ns)) ≡ put out at (fields w ns)
+fields-all out at w ns i e = ap (λ (t : List ℕ). put out at (fields w t)) (ap (λ (j : ℕ). take j ns) e ∙ take-length ns)
+
+pub line-end : (out : List ℕ) (at w : ℕ) (ns : List ℕ) (m : ℕ) → m ≡ at + w * length ns → m < length out
+    → set (put out at (fields w ns)) m 10 ≡ put out at (line w ns)
+unfolding line
+line-end out at w ns m e h = put-more out at (fields w ns) 10 m (rw length-fields (sym e)) h
+
+-- ---- whole sheets
+
+pub put-first : (out s : List ℕ) → put out 0 s ≡ s ++ drop (length s) out
+unfolding put
+put-first out s = ap (λ (m : ℕ). s ++ drop m out) (zero-add (length s))
+
+-- a buffer that has room, and one that has none
+pub printed : (s out : List ℕ) → length s ≤ length out → Printed s out (length s) (put out 0 s)
+printed s out h = record { answered = simp (le-leb _ _ h); written = simp (le-leb _ _ h) (put-first out s) }
+
+pub unprinted : (s out : List ℕ) → length out < length s → Printed s out 0 out
+unprinted s out h = record { answered = simp (lt-leb _ _ h); written = simp (lt-leb _ _ h) }
+
+pub length-lines : (counts bits patterns : List ℕ) → length counts ≡ 6 → length patterns ≡ 2 → length (threeLines counts bits patterns) ≡ 91 + 8 * length bits
+unfolding threeLines
+length-lines counts bits patterns c p =
+    length-append (line 8 counts ++ line 8 bits) (line 20 patterns)
+    ∙ rw (length-append (line 8 counts) (line 8 bits), length-line 8 counts, length-line 8 bits, length-line 20 patterns, c, p) (omega arith)
+
+pub lines-put : (out counts bits patterns : List ℕ) (a b : ℕ) → a ≡ 49 → b ≡ a + 8 * length bits + 1 → b ≤ length out → length counts ≡ 6
+    → put (put (put out 0 (line 8 counts)) a (line 8 bits)) b (line 20 patterns) ≡ put out 0 (threeLines counts bits patterns)
+unfolding threeLines
+lines-put out counts bits patterns a b p q h c =
+    let first : 0 + length (line 8 counts) ≡ a = rw (length-line 8 counts, c) (omega arith) in
+    let second : 0 + length (line 8 counts ++ line 8 bits) ≡ b = rw (length-append (line 8 counts) (line 8 bits), length-line 8 counts, length-line 8 bits, c) (omega arith) in
+    let fits : a ≤ length out = omega arith in
+    ap (λ (o : List ℕ). put o b (line 20 patterns)) (put-put out 0 (line 8 counts) (line 8 bits) a first fits)
+    ∙ put-put out 0 (line 8 counts ++ line 8 bits) (line 20 patterns) b second h
+
+-- ---- an array copied from the front
+
+pub copy-more : (to from : List ℕ) (i x : ℕ) → i < length to → x ≡ getD from i 0 → ((j : ℕ) → j < i → getD to j 0 ≡ getD from j 0)
+    → (j : ℕ) → j < i + 1 → getD (set to i x) j 0 ≡ getD from j 0
+copy-more to from i x h e before j l = by-test (eqb j i) refl
+  where
+    by-test : (t : Bool) → eqb j i ≡ t → getD (set to i x) j 0 ≡ getD from j 0
+    by-test true p =
+        let same : j ≡ i = eqb-true j i p in
+        ap (λ (k : ℕ). getD (set to i x) k 0) same ∙ getD-set-same to i x 0 h ∙ e ∙ ap (λ (k : ℕ). getD from k 0) (sym same)
+    by-test false p =
+        let other : j ≡ i → ⊥ = eqb-false j i p in
+        let most : j ≤ i = omega arith in
+        let less : j < i = lt-of-le-ne most other in
+        getD-set-other to i j x 0 other ∙ before j less
+
+-- what was printed lies within the buffer
+pub printed-within : (s out : List ℕ) (n : ℕ) (out′ : List ℕ) → Printed s out n out′ → n ≤ length out
+printed-within s out n out′ p = by-test (leb (length s) (length out)) refl
+  where
+    by-test : (t : Bool) → leb (length s) (length out) ≡ t → n ≤ length out
+    by-test true e = let m : n ≡ length s = p .answered ∙ simp e in omega (arith, leb-true (length s) (length out) e)
+    by-test false e = let m : n ≡ 0 = p .answered ∙ simp e in omega arith

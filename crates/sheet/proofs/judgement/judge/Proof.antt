@@ -1,0 +1,111 @@
+-- `judgement::judge` meets its contract: the search finds the definition's finding, and the evaluation of it is not refused.
+use borrow.Author.Needs.{needs}
+use mathlib.Core.Path.{_≡_, sym, ap, _∙_}
+use mathlib.Core.List.{List}
+use Prim.Native.Nat.{ℕ, _/_, _≤_}
+use native.Mathlib.Nat.{div-le-self}
+use native.Mathlib.Omega.{arith}
+use lib.ListN.{length, take}
+use lib.Seq.{length-take-le}
+use Rattle.counting.specs.Recording.{blocksIn}
+use Rattle.counting.proofs.Accepted.{valid-facts}
+use Rattle.judging.specs.Evaluation.{evaluatedOf, positiveIn, zIn, scoreNumber}
+use Rattle.judging.specs.declared.evaluation.Evaluated.{Evaluated}
+use Rattle.judging.specs.declared.evaluation.Score.the-variants.{Z}
+use Rattle.sheet.specs.Training.{trainedOf, trainedOrder}
+use Rattle.sheet.specs.Judgement.{judgedOf}
+use Rattle.sheet.proofs.Evaluating.{evaluated-is}
+use Rattle.sheet.proofs.judgement.judge.Statement.{statement}
+use Rattle.sheet.proofs.judgement.judge.Tie as tie
+
+room-requires : tie.Need-room-requires
+room-requires c κs = search needs
+
+room-requires-2 : tie.Need-room-requires-2
+room-requires-2 c κs = search needs
+
+slice-aggregate-train : tie.Need-slice-aggregate-train
+slice-aggregate-train c = search needs
+
+slice-aggregate-train-2 : tie.Need-slice-aggregate-train-2
+slice-aggregate-train-2 c = search needs
+
+train-requires : tie.Need-train-requires
+train-requires c κs = search needs
+
+bin-count-requires : tie.Need-bin-count-requires
+bin-count-requires c κs = search needs
+
+array-share-prefix-order : tie.Need-array-share-prefix-order
+array-share-prefix-order c = search needs
+
+-- the entry, from where the search has been made
+abbrev entry-of : tie.After-train → tie.Start
+entry-of d = d .before .before .before .before .before .before .before
+
+-- both buffers keep their length
+bins-long : (d : tie.After-train) → length (d .train .last .1 .1 .1 .0) ≡ 256
+bins-long d = omega (arith, d .train .kept .1 .1 .1 .0, d .before .before .before .before .room .ensures)
+
+order-long : (d : tie.After-train) → length (d .train .last .1 .1 .1 .1 .0) ≡ 256
+order-long d = omega (arith, d .train .kept .1 .1 .1 .1 .0, d .before .before .before .room2 .ensures)
+
+slice-aggregate-evaluate-histogram : tie.Need-slice-aggregate-evaluate-histogram
+slice-aggregate-evaluate-histogram c =
+    let d = c .before .before .before .before in
+    let m = c .before .bin-count .result in
+    let order : List ℕ = d .train .last .1 .1 .1 .1 .0 in
+    let fits : m ≤ length order = omega (arith, c .before .bin-count .ensures, order-long d, entry-of d .pre .trainable .room .1) in
+    sym (length-take-le m order fits)
+
+slice-aggregate-evaluate-histogram-2 : tie.Need-slice-aggregate-evaluate-histogram-2
+slice-aggregate-evaluate-histogram-2 c = search needs
+
+evaluate-histogram-requires : tie.Need-evaluate-histogram-requires
+evaluate-histogram-requires c κs = search needs
+
+number-of-requires : tie.Need-number-of-requires
+number-of-requires c κs = search needs
+
+returns : tie.Need-returns
+unfolding judgedOf
+returns c =
+    let tried = c .before .before .evaluate-histogram in
+    let d = c .before .before .before .before .before .before .before .before in
+    let trained = d .train in
+    let counted = c .before .before .before .before .before .bin-count in
+    let a = entry-of d .args in
+    let g = entry-of d .pre in
+    let t = g .trainable in
+    let f = trainedOf (a .block-size) (a .k) (a .training .now) in
+    let order = trainedOrder (a .block-size) (a .k) (a .training .now) in
+    let testing = a .testing .now in
+    let v = valid-facts (a .block-size) (t .valid) in
+    let width : a .k ≤ 20 = omega arith in
+    let fits : a .k ≤ a .block-size = omega arith in
+    let few : blocksIn (a .block-size) testing ≤ 16777216 = omega (arith, div-le-self (length testing) (a .block-size / 8), g .few) in
+    let left : List ℕ = trained .last .1 .1 .1 .1 .0 in
+    let ordered : take (counted .result) left ≡ order = ap (λ (m : ℕ). take m left) (counted .ensures) ∙ trained .ensures .ordered in
+    let told : tried .result ≡ evaluatedOf (trained .result) (take (counted .result) left) testing (length (trained .last .1 .1 .1 .0)) = tried .ensures .0 in
+    let is : tried .result ≡ record { refusal = 0; positive = positiveIn f order testing; score = Z (zIn f order testing) } =
+    told ∙ (λ i. evaluatedOf (trained .ensures .found i) (ordered i) testing (bins-long d i))
+    ∙ evaluated-is (a .block-size) (a .k) (a .training .now) (t .valid) (t .some) width fits testing 256 (g .some) few (t .room .0) in
+    let z : c .number-of .result ≡ zIn f order testing = c .number-of .ensures ∙ ap (λ (e : Evaluated). scoreNumber (e .score)) is in
+    λ i. record { finding = trained .ensures .found i; positive = is i .positive; z = z i }
+
+pub judge-spec : {M : Type 1} → statement M
+judge-spec =
+    tie.close
+    (tie.spec
+    room-requires
+    room-requires-2
+    slice-aggregate-train
+    slice-aggregate-train-2
+    train-requires
+    bin-count-requires
+    array-share-prefix-order
+    slice-aggregate-evaluate-histogram
+    slice-aggregate-evaluate-histogram-2
+    evaluate-histogram-requires
+    number-of-requires
+    returns)

@@ -1,0 +1,69 @@
+-- `training::train` meets its contract: a start, one feed and a search are a session of the claim.
+use borrow.Author.Needs.{needs}
+use mathlib.Core.Path.{_≡_, sym, ap, _∙_}
+use mathlib.Core.List.{List, [], _∷_}
+use Prim.Native.Nat.{ℕ}
+use lib.ListN.{length}
+use Rattle.counting.specs.declared.sampling.Started.{Started}
+use Rattle.searching.specs.Claim.{Session, fresh, next}
+use Rattle.sheet.proofs.Searched.{started-free, found-best}
+use Rattle.sheet.proofs.training.train.Statement.{statement}
+use Rattle.sheet.proofs.training.train.Tie as tie
+
+room-requires : tie.Need-room-requires
+room-requires c κs = search needs
+
+slice-aggregate-start : tie.Need-slice-aggregate-start
+slice-aggregate-start c = search needs
+
+start-requires : tie.Need-start-requires
+start-requires c κs = search needs
+
+slice-aggregate-feed : tie.Need-slice-aggregate-feed
+slice-aggregate-feed c = search needs
+
+feed-requires : tie.Need-feed-requires
+feed-requires c κs = search needs
+
+slice-aggregate-brute-force-threads : tie.Need-slice-aggregate-brute-force-threads
+slice-aggregate-brute-force-threads c = search needs
+
+brute-force-threads-requires : tie.Need-brute-force-threads-requires
+brute-force-threads-requires c κs = search needs
+
+same-length : tie.Need-same-length
+same-length c = search needs
+
+same-length-2 : tie.Need-same-length-2
+same-length-2 c = search needs
+
+returns : tie.Need-returns
+returns c =
+    let search = c .before .before .before .before .before in
+    let fed = search .before .before .before .before .before in
+    let begun = fed .before .before .before in
+    let entry = begun .before .before .before .before .before .before in
+    let a = entry .args in
+    let ws : List ℕ = begun .before .before .room .result in
+    let first : begun .start .result .refusal ≡ 0 = ap (λ (r : Started). r .refusal) (begun .start .ensures .0) ∙ started-free (a .block-size) (length ws) (entry .pre .valid) in
+    let session : Session (a .block-size) ws (a .training .now ∷ []) (fed .feed .result .refusal ∷ []) (fed .feed .result .sampler) (fed .feed .last .1 .0) =
+    next (fresh (begun .start .result) (begun .start .last .1 .0) (begun .start .ensures .0) (begun .start .ensures .1) first)
+    (a .training .now) (fed .feed .result) (fed .feed .last .1 .0) (fed .feed .ensures .0) (fed .feed .ensures .1) in
+    found-best (a .block-size) (a .k) ws (a .training .now) (fed .feed .result .refusal ∷ []) (fed .feed .result .sampler) (fed .feed .last .1 .0) session
+    (sym (begun .before .before .room .ensures)) (a .bins .now) (a .order .now) (entry .pre)
+    (search .brute-force-threads .result) (search .brute-force-threads .last .1 .1 .1 .0) (search .brute-force-threads .last .1 .1 .1 .1 .0) (search .brute-force-threads .ensures)
+
+pub train-spec : {M : Type 1} → statement M
+train-spec =
+    tie.close
+    (tie.spec
+    room-requires
+    slice-aggregate-start
+    start-requires
+    slice-aggregate-feed
+    feed-requires
+    slice-aggregate-brute-force-threads
+    brute-force-threads-requires
+    same-length
+    same-length-2
+    returns)

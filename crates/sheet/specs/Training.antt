@@ -1,0 +1,38 @@
+-- The search of the training bytes.
+use mathlib.Core.Path.{_≡_}
+use mathlib.Core.Bool.{true}
+use mathlib.Core.List.{List}
+use Prim.Native.Nat.{ℕ, _^_, _≤_}
+use lib.ListN.{length, take}
+use Rattle.counting.specs.Block.{validSize}
+use Rattle.counting.specs.Recording.{blocksIn, recordedBit}
+use Rattle.counting.specs.Sample.{countsOf}
+use Rattle.ranking.specs.Order.{orderOf}
+use Rattle.searching.specs.Finding.{winnerOf, findingOf}
+use Rattle.searching.specs.declared.finding.Finding.{Finding}
+
+-- the best k-subset of the recording that holds the bytes
+unfoldable pub chosenOf : ℕ → ℕ → List ℕ → List ℕ
+chosenOf B k bytes = winnerOf (recordedBit B bytes) (blocksIn B bytes) B k
+
+-- .. as a finding
+unfoldable pub trainedOf : ℕ → ℕ → List ℕ → Finding
+trainedOf B k bytes = findingOf (recordedBit B bytes) (blocksIn B bytes) B (chosenOf B k bytes)
+
+-- .. and its bin order
+unfoldable pub trainedOrder : ℕ → ℕ → List ℕ → List ℕ
+trainedOrder B k bytes = orderOf (countsOf (recordedBit B bytes) (blocksIn B bytes) (chosenOf B k bytes))
+
+-- what can be searched in the words that the program has, with buffers of `bins` and `order` entries
+pub record Trainable (B k : ℕ) (bytes : List ℕ) (bins order : ℕ) : Type 0 where
+  pub valid : validSize B ≡ true
+  pub block : B ≤ 64
+  pub some : 1 ≤ k
+  pub width : k ≤ 8
+  pub few : length bytes ≤ 4096
+  pub room : (2 ^ k ≤ bins) × (2 ^ k ≤ order)
+
+-- the finding, and the order buffer's first 2 ^ k entries
+pub record Trained (B k : ℕ) (bytes : List ℕ) (f : Finding) (order : List ℕ) : Type 0 where
+  pub found : f ≡ trainedOf B k bytes
+  pub ordered : take (2 ^ k) order ≡ trainedOrder B k bytes

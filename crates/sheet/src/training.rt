@@ -1,0 +1,33 @@
+// The search of the training bytes, in words of the program's own.
+ghost use mathlib.Core.Path.{_≡_};
+ghost use lib.ListN.{length};
+ghost use Rattle.sheet.specs.Training.{Trainable, Trained};
+use counting::sampling::feed;
+use counting::sampling::start;
+use searching::finding::Finding;
+use searching::search::brute_force_threads;
+
+// The best subset of the training bytes, by the direct search; its bin order stands in the first 2 ^ k entries of the order buffer afterwards.
+pub fn train(
+    block_size: usize,
+    k: usize,
+    training: &[u8],
+    bins: &mut [u32],
+    order: &mut [u32],
+) -> Finding
+    requires { ⌜ Trainable «block_size» k (now training) (length (now bins)) (length (now order)) ⌝ }
+    ensures { λ r. ⌜ Trained «block_size» k (now (training .entry)) r (now (order .exit)) ⌝ }
+{
+    let mut words = room();
+    let started = start(block_size, &mut words);
+    let fed = feed(started.sampler, &mut words, training);
+    let searched = brute_force_threads(fed.sampler, &words, k, bins, order);
+    searched.finding
+}
+
+// Words for 4,096 training bytes: whatever B up to 64 is, no more than 63 words are left over by floor(576 / B), and 8 bytes go into a word.
+fn room() -> [u64; 576]
+    ensures { λ r. ⌜ 576 ≡ length r ⌝ }
+{
+    [0; 576]
+}
