@@ -1,0 +1,203 @@
+-- What an exported function promises, from what the function that it wraps has promised and what was written; and where a record has no room.
+use mathlib.Core.Path.{_≡_, refl, ap, subst, _∙_}
+use mathlib.Core.Logic.{_⊎_, inl, inr}
+use mathlib.Core.Bool.{Bool}
+use mathlib.Core.List.{List, [], _∷_}
+use Prim.Native.Nat.{ℕ, _≤_, _<_}
+use native.Mathlib.Omega.{arith}
+use lib.ListN.{length}
+use Rattle.counting.specs.Sampling.{startedOf, startedWords, fedOf, fedWords}
+use Rattle.counting.specs.declared.sampling.Sampler.{Sampler}
+use Rattle.counting.specs.declared.sampling.Started.{Started}
+use Rattle.counting.specs.declared.sampling.Fed.{Fed}
+use Rattle.searching.specs.Search.{DirectSearch, LayeredSearch}
+use Rattle.searching.specs.declared.finding.Finding.{Finding}
+use Rattle.searching.specs.declared.finding.Searched.{Searched}
+use Rattle.judging.specs.Check.{checkRefusal, checkedScratch}
+use Rattle.judging.specs.Evaluation.{evaluatedOf, evaluatedScratch}
+use Rattle.judging.specs.Plan.{planOf}
+use Rattle.judging.specs.Split.{splitRefusal, firstPart, secondPart}
+use Rattle.judging.specs.declared.evaluation.Evaluated.{Evaluated}
+use Rattle.judging.specs.declared.plan.Plan.{Plan}
+use Rattle.exports.specs.Records.{samplerNumbers, samplerOf, findingNumbers, findingRead, evaluatedNumbers, planNumbers, written}
+use Rattle.exports.specs.Calls.{StartCall, FeedCall, Answered, DirectCall, LayeredCall, CheckCall, EvaluateCall, SplitCall, PlanCall}
+
+-- one of two slices is too short, where both are long enough
+neither : {a b m n : ℕ} → m ≤ a → n ≤ b → (a < m) ⊎ (b < n) → ⊥
+neither h i (inl x) = omega arith
+neither h i (inr x) = omega arith
+
+-- ---- start
+
+pub start-made :
+    (B : ℕ) (ws sampler : List ℕ) (a : Started) (ws′ sampler′ : List ℕ)
+    → 3 ≤ length sampler
+    → a ≡ startedOf B (length ws)
+    → ws′ ≡ startedWords B ws
+    → sampler′ ≡ written (samplerNumbers (a .sampler)) sampler
+    → StartCall B ws sampler (a .refusal) ws′ sampler′
+start-made B ws sampler a ws′ sampler′ room e w s =
+    record {
+      made = λ h. (ap (λ (x : Started). x .refusal) e, w, s ∙ ap (λ (x : Started). written (samplerNumbers (x .sampler)) sampler) e);
+      short = λ h. absurd (omega arith);
+    }
+
+pub start-short : (B : ℕ) (ws sampler : List ℕ) → length sampler < 3 → StartCall B ws sampler 25 ws sampler
+start-short B ws sampler h = record { made = λ m. absurd (omega arith); short = λ s. (refl, refl, refl) }
+
+-- ---- feed
+
+pub feed-made :
+    (sampler ws piece : List ℕ) (given : Sampler) (a : Fed) (sampler′ ws′ : List ℕ)
+    → 3 ≤ length sampler
+    → given ≡ samplerOf sampler
+    → a ≡ fedOf given (length ws) (length piece)
+    → ws′ ≡ fedWords given ws piece
+    → sampler′ ≡ written (samplerNumbers (a .sampler)) sampler
+    → FeedCall sampler ws piece (a .refusal) sampler′ ws′
+feed-made sampler ws piece given a sampler′ ws′ room g e w s =
+    let f : a ≡ fedOf (samplerOf sampler) (length ws) (length piece) = e ∙ ap (λ (x : Sampler). fedOf x (length ws) (length piece)) g in
+    record {
+      made = λ h. (
+        ap (λ (x : Fed). x .refusal) f,
+        w ∙ ap (λ (x : Sampler). fedWords x ws piece) g,
+        s ∙ ap (λ (x : Fed). written (samplerNumbers (x .sampler)) sampler) f,
+      );
+      short = λ h. absurd (omega arith);
+    }
+
+pub feed-short : (sampler ws piece : List ℕ) → length sampler < 3 → FeedCall sampler ws piece 25 sampler ws
+feed-short sampler ws piece h = record { made = λ m. absurd (omega arith); short = λ s. (refl, refl, refl) }
+
+-- ---- the searches
+
+answered : (a b : Searched) (finding finding′ : List ℕ) → a ≡ b → finding′ ≡ written (findingNumbers (a .finding)) finding → Answered b finding (a .refusal) finding′
+answered a b finding finding′ e w =
+    record {
+      refusal = ap (λ (x : Searched). x .refusal) e;
+      wrote = w ∙ ap (λ (x : Searched). written (findingNumbers (x .finding)) finding) e;
+    }
+
+pub direct-made :
+    (sampler ws : List ℕ) (k : ℕ) (bins order finding : List ℕ) (given : Sampler) (a : Searched) (bins′ order′ finding′ : List ℕ)
+    → 3 ≤ length sampler
+    → 24 ≤ length finding
+    → given ≡ samplerOf sampler
+    → DirectSearch given ws k bins order a bins′ order′
+    → finding′ ≡ written (findingNumbers (a .finding)) finding
+    → DirectCall sampler ws k bins order finding (a .refusal) bins′ order′ finding′
+direct-made sampler ws k bins order finding given a bins′ order′ finding′ room space g d w =
+    let s : DirectSearch (samplerOf sampler) ws k bins order a bins′ order′ = subst (λ (x : Sampler). DirectSearch x ws k bins order a bins′ order′) g d in
+    record {
+      made = λ h i. (record { answered = refl; counted = s .counted; ordered = s .ordered }, answered a _ finding finding′ (s .answered) w);
+      short = λ h. absurd (neither room space h);
+    }
+
+pub direct-short :
+    (sampler ws : List ℕ) (k : ℕ) (bins order finding : List ℕ)
+    → (length sampler < 3) ⊎ (length finding < 24)
+    → DirectCall sampler ws k bins order finding 25 bins order finding
+direct-short sampler ws k bins order finding h =
+    record { made = λ m n. absurd (neither m n h); short = λ s. (refl, refl, refl, refl) }
+
+pub layered-made :
+    (sampler ws : List ℕ) (k : ℕ) (first second bins order finding : List ℕ) (given : Sampler) (a : Searched) (first′ second′ bins′ order′ finding′ : List ℕ)
+    → 3 ≤ length sampler
+    → 24 ≤ length finding
+    → given ≡ samplerOf sampler
+    → LayeredSearch given ws k first second bins order a first′ second′ bins′ order′
+    → finding′ ≡ written (findingNumbers (a .finding)) finding
+    → LayeredCall sampler ws k first second bins order finding (a .refusal) first′ second′ bins′ order′ finding′
+layered-made sampler ws k first second bins order finding given a first′ second′ bins′ order′ finding′ room space g d w =
+    let s : LayeredSearch (samplerOf sampler) ws k first second bins order a first′ second′ bins′ order′ =
+    subst (λ (x : Sampler). LayeredSearch x ws k first second bins order a first′ second′ bins′ order′) g d in
+    record {
+      made = λ h i. (
+        record {
+          search = record { answered = refl; counted = s .search .counted; ordered = s .search .ordered };
+          kept = s .kept;
+        },
+        answered a _ finding finding′ (s .search .answered) w,
+      );
+      short = λ h. absurd (neither room space h);
+    }
+
+pub layered-short :
+    (sampler ws : List ℕ) (k : ℕ) (first second bins order finding : List ℕ)
+    → (length sampler < 3) ⊎ (length finding < 24)
+    → LayeredCall sampler ws k first second bins order finding 25 first second bins order finding
+layered-short sampler ws k first second bins order finding h =
+    record { made = λ m n. absurd (neither m n h); short = λ s. (refl, refl, refl, refl, refl, refl) }
+
+-- ---- judging
+
+pub check-made :
+    (finding order scratch : List ℕ) (f : Finding) (r : ℕ) (scratch′ : List ℕ)
+    → 24 ≤ length finding
+    → f ≡ findingRead finding
+    → r ≡ checkRefusal f order (length scratch)
+    → scratch′ ≡ checkedScratch f (length order) scratch
+    → CheckCall finding order scratch r scratch′
+check-made finding order scratch f r scratch′ room e a s =
+    record {
+      made = λ h. (a ∙ ap (λ (x : Finding). checkRefusal x order (length scratch)) e, s ∙ ap (λ (x : Finding). checkedScratch x (length order) scratch) e);
+      short = λ h. absurd (omega arith);
+    }
+
+pub evaluate-made :
+    (finding order bytes scratch evaluated : List ℕ) (f : Finding) (a : Evaluated) (scratch′ evaluated′ : List ℕ)
+    → 24 ≤ length finding
+    → 3 ≤ length evaluated
+    → f ≡ findingRead finding
+    → a ≡ evaluatedOf f order bytes (length scratch)
+    → scratch′ ≡ evaluatedScratch f order bytes scratch
+    → evaluated′ ≡ written (evaluatedNumbers a) evaluated
+    → EvaluateCall finding order bytes scratch evaluated (a .refusal) scratch′ evaluated′
+evaluate-made finding order bytes scratch evaluated f a scratch′ evaluated′ room space e g s w =
+    let b : a ≡ evaluatedOf (findingRead finding) order bytes (length scratch) = g ∙ ap (λ (x : Finding). evaluatedOf x order bytes (length scratch)) e in
+    record {
+      made = λ h i. (
+        ap (λ (x : Evaluated). x .refusal) b,
+        s ∙ ap (λ (x : Finding). evaluatedScratch x order bytes scratch) e,
+        w ∙ ap (λ (x : Evaluated). written (evaluatedNumbers x) evaluated) b,
+      );
+      short = λ h. absurd (neither room space h);
+    }
+
+pub evaluate-short :
+    (finding order bytes scratch evaluated : List ℕ)
+    → (length finding < 24) ⊎ (length evaluated < 3)
+    → EvaluateCall finding order bytes scratch evaluated 25 scratch evaluated
+evaluate-short finding order bytes scratch evaluated h =
+    record { made = λ m n. absurd (neither m n h); short = λ s. (refl, refl, refl) }
+
+pub plan-made :
+    (B size : ℕ) (plan : List ℕ) (p : Plan) (plan′ : List ℕ)
+    → 15 ≤ length plan
+    → p ≡ planOf B size
+    → plan′ ≡ written (planNumbers p) plan
+    → PlanCall B size plan (p .refusal) plan′
+plan-made B size plan p plan′ room e w =
+    record {
+      made = λ h. (ap (λ (x : Plan). x .refusal) e, w ∙ ap (λ (x : Plan). written (planNumbers x) plan) e);
+      short = λ h. absurd (omega arith);
+    }
+
+pub split-made :
+    (raw : List ℕ) (B : ℕ) (training : Bool) (lengths first second : List ℕ) (r : ℕ) (lengths′ : List ℕ)
+    → 2 ≤ length lengths
+    → first ≡ firstPart raw B training
+    → second ≡ secondPart raw B training
+    → r ≡ splitRefusal raw B
+    → lengths′ ≡ written (length first ∷ length second ∷ []) lengths
+    → SplitCall raw B training lengths r lengths′
+split-made raw B training lengths first second r lengths′ room f s e w =
+    record {
+      made = λ h. (
+        e,
+        w
+            ∙ ap (λ (x : List ℕ). written (length x ∷ length second ∷ []) lengths) f
+            ∙ ap (λ (x : List ℕ). written (length (firstPart raw B training) ∷ length x ∷ []) lengths) s,
+      );
+      short = λ h. absurd (omega arith);
+    }

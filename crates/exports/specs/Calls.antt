@@ -1,0 +1,101 @@
+-- What each exported function promises: what the function that it wraps answers and leaves, its records as numbers in lent slices.
+-- Where a slice has no room for its record the number is 25, and nothing is called or written.
+use mathlib.Core.Path.{_≡_}
+use Prim.Native.Nat.{ℕ, _≤_, _<_}
+use mathlib.Core.Bool.{Bool}
+use mathlib.Core.List.{List, [], _∷_}
+use mathlib.Core.Logic.{_⊎_}
+use lib.ListN.{length}
+use Rattle.counting.specs.Sampling.{startedOf, startedWords, fedOf, fedWords}
+use Rattle.counting.specs.declared.sampling.Sampler.{Sampler}
+use Rattle.searching.specs.Refusal.{directRefusal, layeredRefusal}
+use Rattle.searching.specs.Search.{answerOf, sampleOf, blocksOf, DirectSearch, LayeredSearch}
+use Rattle.searching.specs.declared.finding.Searched.{Searched}
+use Rattle.judging.specs.Check.{checkRefusal, checkedScratch}
+use Rattle.judging.specs.Evaluation.{evaluatedOf, evaluatedScratch}
+use Rattle.judging.specs.Plan.{planOf}
+use Rattle.judging.specs.Split.{splitRefusal, firstPart, secondPart}
+use Rattle.exports.specs.Records.{samplerNumbers, samplerOf, findingNumbers, findingRead, evaluatedNumbers, planNumbers, written, shortRecord}
+
+-- `start`, its sampler written to the slice
+pub record StartCall (B : ℕ) (ws sampler : List ℕ) (r : ℕ) (ws′ sampler′ : List ℕ) : Type 0 where
+  pub made :
+      3 ≤ length sampler
+      → (r ≡ startedOf B (length ws) .refusal)
+      × (ws′ ≡ startedWords B ws)
+      × (sampler′ ≡ written (samplerNumbers (startedOf B (length ws) .sampler)) sampler)
+  pub short : length sampler < 3 → (r ≡ shortRecord) × (ws′ ≡ ws) × (sampler′ ≡ sampler)
+
+-- `feed`, the sampler read from the slice and the one it returns written there
+pub record FeedCall (sampler ws piece : List ℕ) (r : ℕ) (sampler′ ws′ : List ℕ) : Type 0 where
+  pub made :
+      3 ≤ length sampler
+      → (r ≡ fedOf (samplerOf sampler) (length ws) (length piece) .refusal)
+      × (ws′ ≡ fedWords (samplerOf sampler) ws piece)
+      × (sampler′ ≡ written (samplerNumbers (fedOf (samplerOf sampler) (length ws) (length piece) .sampler)) sampler)
+  pub short : length sampler < 3 → (r ≡ shortRecord) × (ws′ ≡ ws) × (sampler′ ≡ sampler)
+
+-- the answer a: its refusal r returned, its finding written
+pub record Answered (a : Searched) (finding : List ℕ) (r : ℕ) (finding′ : List ℕ) : Type 0 where
+  pub refusal : r ≡ a .refusal
+  pub wrote : finding′ ≡ written (findingNumbers (a .finding)) finding
+
+-- what the direct search answers
+abbrev pub directAnswer : Sampler → List ℕ → ℕ → List ℕ → List ℕ → Searched
+directAnswer s ws k bins order =
+    answerOf (directRefusal s (length ws) k (length bins) (length order)) (sampleOf s ws) (blocksOf s) (s .«block_size») k
+
+-- `brute_force_threads`, the sampler read from one slice and the finding written to another
+pub record DirectCall (sampler ws : List ℕ) (k : ℕ) (bins order finding : List ℕ) (r : ℕ) (bins′ order′ finding′ : List ℕ) : Type 0 where
+  pub made :
+      3 ≤ length sampler
+      → 24 ≤ length finding
+      → DirectSearch (samplerOf sampler) ws k bins order (directAnswer (samplerOf sampler) ws k bins order) bins′ order′
+      × Answered (directAnswer (samplerOf sampler) ws k bins order) finding r finding′
+  pub short : (length sampler < 3) ⊎ (length finding < 24) → (r ≡ shortRecord) × (bins′ ≡ bins) × (order′ ≡ order) × (finding′ ≡ finding)
+
+-- what the layered search answers
+abbrev pub layeredAnswer : Sampler → List ℕ → ℕ → List ℕ → List ℕ → List ℕ → List ℕ → Searched
+layeredAnswer s ws k first second bins order =
+    answerOf (layeredRefusal s (length ws) k (length first) (length second) (length bins) (length order)) (sampleOf s ws) (blocksOf s) (s .«block_size») k
+
+-- `brute_force`, in the same way
+pub record LayeredCall (sampler ws : List ℕ) (k : ℕ) (first second bins order finding : List ℕ) (r : ℕ) (first′ second′ bins′ order′ finding′ : List ℕ) : Type 0 where
+  pub made :
+      3 ≤ length sampler
+      → 24 ≤ length finding
+      → LayeredSearch (samplerOf sampler) ws k first second bins order (layeredAnswer (samplerOf sampler) ws k first second bins order) first′ second′ bins′ order′
+      × Answered (layeredAnswer (samplerOf sampler) ws k first second bins order) finding r finding′
+  pub short :
+      (length sampler < 3) ⊎ (length finding < 24)
+      → (r ≡ shortRecord) × (first′ ≡ first) × (second′ ≡ second) × (bins′ ≡ bins) × (order′ ≡ order) × (finding′ ≡ finding)
+
+-- `validate`, the finding read from the slice
+pub record CheckCall (finding order scratch : List ℕ) (r : ℕ) (scratch′ : List ℕ) : Type 0 where
+  pub made :
+      24 ≤ length finding
+      → (r ≡ checkRefusal (findingRead finding) order (length scratch)) × (scratch′ ≡ checkedScratch (findingRead finding) (length order) scratch)
+  pub short : length finding < 24 → (r ≡ shortRecord) × (scratch′ ≡ scratch)
+
+-- `evaluate_histogram`, the finding read from one slice and the evaluation's 3 numbers written to another
+pub record EvaluateCall (finding order bytes scratch evaluated : List ℕ) (r : ℕ) (scratch′ evaluated′ : List ℕ) : Type 0 where
+  pub made :
+      24 ≤ length finding
+      → 3 ≤ length evaluated
+      → (r ≡ evaluatedOf (findingRead finding) order bytes (length scratch) .refusal)
+      × (scratch′ ≡ evaluatedScratch (findingRead finding) order bytes scratch)
+      × (evaluated′ ≡ written (evaluatedNumbers (evaluatedOf (findingRead finding) order bytes (length scratch))) evaluated)
+  pub short : (length finding < 24) ⊎ (length evaluated < 3) → (r ≡ shortRecord) × (scratch′ ≡ scratch) × (evaluated′ ≡ evaluated)
+
+-- the split: the lengths of both parts of the raw bytes, which lie one after the other from the first byte on
+pub record SplitCall (raw : List ℕ) (B : ℕ) (training : Bool) (lengths : List ℕ) (r : ℕ) (lengths′ : List ℕ) : Type 0 where
+  pub made :
+      2 ≤ length lengths
+      → (r ≡ splitRefusal raw B)
+      × (lengths′ ≡ written (length (firstPart raw B training) ∷ length (secondPart raw B training) ∷ []) lengths)
+  pub short : length lengths < 2 → (r ≡ shortRecord) × (lengths′ ≡ lengths)
+
+-- `configurations`, the plan's 15 numbers written to the slice
+pub record PlanCall (B size : ℕ) (plan : List ℕ) (r : ℕ) (plan′ : List ℕ) : Type 0 where
+  pub made : 15 ≤ length plan → (r ≡ planOf B size .refusal) × (plan′ ≡ written (planNumbers (planOf B size)) plan)
+  pub short : length plan < 15 → (r ≡ shortRecord) × (plan′ ≡ plan)

@@ -1,0 +1,4 @@
+-- What the exported functions promise: records as numbers in lent slices, and each call in the words of the function that it wraps.
+pub mod Records
+pub mod Calls
+pub mod Single

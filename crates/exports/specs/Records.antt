@@ -1,0 +1,66 @@
+-- Records as numbers in a lent slice.
+use Prim.Native.Nat.{ℕ, min}
+use mathlib.Core.Bool.{false}
+use mathlib.Core.List.{List, [], _∷_, _++_, map}
+use lib.Ieee.{fin, binary64, toBits}
+use lib.IntN.{pos}
+use lib.ListN.{length, getD, take, drop}
+use Rattle.counting.specs.declared.sampling.Sampler.{Sampler}
+use Rattle.searching.specs.declared.finding.Finding.{Finding}
+use Rattle.judging.specs.declared.evaluation.Evaluated.{Evaluated}
+use Rattle.judging.specs.declared.evaluation.Score.{Score}
+use Rattle.judging.specs.declared.evaluation.Score.the-variants.{Z, NoSample}
+use Rattle.judging.specs.declared.plan.Plan.{Plan}
+
+-- a sampler: its block size, its number of words, the bytes taken
+abbrev pub samplerNumbers : Sampler → List ℕ
+samplerNumbers s = s .«block_size» ∷ s .words ∷ s .taken ∷ []
+
+-- the sampler whose numbers stand first
+abbrev pub samplerOf : List ℕ → Sampler
+samplerOf l = record { «block_size» = getD l 0 0; words = getD l 1 0; taken = getD l 2 0 }
+
+-- a finding: its block size, width, division, the bits of its z as a double, and its 20 bit entries
+abbrev pub findingNumbers : Finding → List ℕ
+findingNumbers f = f .«block_size» ∷ f .width ∷ f .division ∷ toBits binary64 (f .z) ∷ f .bits
+
+-- a lent slice after numbers were written to its front: the rest is as lent
+abbrev pub written : List ℕ → List ℕ → List ℕ
+written numbers lent = numbers ++ drop (length numbers) lent
+
+-- the number, outside document 01's, of a lent record that is too short: nothing is then called or written
+abbrev pub shortRecord : ℕ
+shortRecord = 25
+
+-- a number that a record holds in 32 bits: one that is too large stands for the largest, which is neither a bit of a block nor a division
+abbrev pub narrowed : ℕ → ℕ
+narrowed x = min x 4294967295
+
+-- the finding whose numbers stand first; its z, which neither a check nor an evaluation reads, is left at 0
+abbrev pub findingRead : List ℕ → Finding
+findingRead l =
+    record {
+      «block_size» = getD l 0 0;
+      width = getD l 1 0;
+      bits = map narrowed (take 20 (drop 4 l));
+      division = narrowed (getD l 2 0);
+      z = fin false 0 (pos 0);
+    }
+
+-- a score's case: 1 where it is a number, 0 for "no sample"
+abbrev pub scoreCase : Score → ℕ
+scoreCase (Z z) = 1
+scoreCase NoSample = 0
+
+-- .. and the bits of z as a double, 0 for "no sample"
+abbrev pub scoreBits : Score → ℕ
+scoreBits (Z z) = toBits binary64 z
+scoreBits NoSample = 0
+
+-- an evaluation: the positive blocks, and its score's two numbers
+abbrev pub evaluatedNumbers : Evaluated → List ℕ
+evaluatedNumbers e = e .positive ∷ scoreCase (e .score) ∷ scoreBits (e .score) ∷ []
+
+-- a plan: the number of pairs, the seven block sizes, the seven widths
+abbrev pub planNumbers : Plan → List ℕ
+planNumbers p = p .pairs ∷ (p .blocks ++ p .widths)

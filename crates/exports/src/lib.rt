@@ -1,0 +1,208 @@
+// The calls for hosts in other languages: numbers and slices only. A slice passes as its address and its number of entries.
+// A sampler is 3 numbers in a lent slice, a finding 24 (`specs/Records.antt`); a slice too short for its record is answered with 25, and nothing is written.
+ghost use mathlib.Core.Path.{_≡_};
+ghost use lib.ListN.{length};
+ghost use Rattle.subsets.specs.Rank.{rankedOf};
+ghost use Rattle.exports.specs.Calls.{StartCall, FeedCall, DirectCall, LayeredCall, CheckCall, EvaluateCall, SplitCall, PlanCall};
+ghost use Rattle.exports.specs.Single.{RankingCall};
+use crate::records::pattern;
+use crate::records::rank_of;
+use crate::records::read_finding;
+use crate::records::read_sampler;
+use crate::records::write_evaluated;
+use crate::records::write_finding;
+use crate::records::write_plan;
+use crate::records::write_sampler;
+use crate::single::ranking_refusal;
+use crate::single::total_of;
+use counting::sampling::feed;
+use counting::sampling::start;
+use judging::check::validate;
+use judging::evaluation::evaluate_histogram;
+use judging::plan::configurations;
+use judging::split::first_part;
+use judging::split::second_part;
+use judging::split::split_refusal;
+use ranking::ranking::bin_count;
+use ranking::ranking::from_bins;
+use searching::search::brute_force;
+use searching::search::brute_force_threads;
+
+pub mod records;
+pub mod single;
+
+// start: clears the words and writes a fresh sampler. Refusals 25, 1.
+#[no_mangle]
+pub extern "C" fn jimrawel_start(block_size: usize, words: &mut [u64], sampler: &mut [u64]) -> u32
+    ensures { λ r. ⌜ StartCall «block_size» (now (words .entry)) (now (sampler .entry)) r (now (words .exit)) (now (sampler .exit)) ⌝ }
+{
+    if sampler.len() < 3 {
+        return 25;
+    }
+    let started = start(block_size, words);
+    write_sampler(started.sampler, sampler);
+    started.refusal
+}
+
+// feed: takes the next piece; the sampler that it returns is in the place of the one given. Refusals 25, 4, 5.
+#[no_mangle]
+pub extern "C" fn jimrawel_feed(sampler: &mut [u64], words: &mut [u64], piece: &[u8]) -> u32
+    ensures { λ r. ⌜ FeedCall (now (sampler .entry)) (now (words .entry)) (now (piece .entry)) r (now (sampler .exit)) (now (words .exit)) ⌝ }
+{
+    if sampler.len() < 3 {
+        return 25;
+    }
+    let fed = feed(read_sampler(sampler), words, piece);
+    write_sampler(fed.sampler, sampler);
+    fed.refusal
+}
+
+// The direct search. Refusals 25, 4, 2, 3, 7.
+#[no_mangle]
+pub extern "C" fn jimrawel_brute_force_threads(
+    sampler: &[u64],
+    words: &[u64],
+    k: usize,
+    bins: &mut [u32],
+    order: &mut [u32],
+    finding: &mut [u64],
+) -> u32
+    ensures { λ r. ⌜ DirectCall (now (sampler .entry)) (now (words .entry)) k (now (bins .entry)) (now (order .entry)) (now (finding .entry)) r (now (bins .exit)) (now (order .exit)) (now (finding .exit)) ⌝ }
+{
+    if sampler.len() < 3 {
+        return 25;
+    }
+    if finding.len() < 24 {
+        return 25;
+    }
+    let searched = brute_force_threads(read_sampler(sampler), words, k, bins, order);
+    write_finding(searched.finding, finding);
+    searched.refusal
+}
+
+// The layered search. Refusals 25, 4, 2, 3, 6, 7.
+#[no_mangle]
+pub extern "C" fn jimrawel_brute_force(
+    sampler: &[u64],
+    words: &[u64],
+    k: usize,
+    first: &mut [u32],
+    second: &mut [u32],
+    bins: &mut [u32],
+    order: &mut [u32],
+    finding: &mut [u64],
+) -> u32
+    ensures { λ r. ⌜ LayeredCall (now (sampler .entry)) (now (words .entry)) k (now (first .entry)) (now (second .entry)) (now (bins .entry)) (now (order .entry)) (now (finding .entry)) r (now (first .exit)) (now (second .exit)) (now (bins .exit)) (now (order .exit)) (now (finding .exit)) ⌝ }
+{
+    if sampler.len() < 3 {
+        return 25;
+    }
+    if finding.len() < 24 {
+        return 25;
+    }
+    let searched = brute_force(read_sampler(sampler), words, k, first, second, bins, order);
+    write_finding(searched.finding, finding);
+    searched.refusal
+}
+
+// The rank of the bits, all of them chosen, in a block. Refusals 1, 2, 3, 9, 10, 12.
+#[no_mangle]
+pub extern "C" fn jimrawel_compute_index(block_size: usize, bits: &[u32], rank: &mut usize) -> u32
+    ensures { λ r. ⌜ (r ≡ rankedOf «block_size» (length (now (bits .entry))) (now (bits .entry)) .refusal) × (now (rank .exit) ≡ rankedOf «block_size» (length (now (bits .entry))) (now (bits .entry)) .rank) ⌝ }
+{
+    let ranked = rank_of(block_size, bits);
+    *rank = ranked.rank;
+    ranked.refusal
+}
+
+// Ranks one subset by the counts of its 2 ^ k bins: its bin order, and its division and z as two numbers. Refusals 25, 2, 7, 26.
+#[no_mangle]
+pub extern "C" fn jimrawel_from_bins(
+    k: usize,
+    bins: &[u32],
+    order: &mut [u32],
+    ranking: &mut [u64],
+) -> u32
+    ensures { λ r. ⌜ RankingCall k (now (bins .entry)) (now (order .entry)) (now (ranking .entry)) r (now (order .exit)) (now (ranking .exit)) ⌝ }
+{
+    let refusal = ranking_refusal(k, bins, order.len(), ranking.len());
+    if refusal != 0 {
+        return refusal;
+    }
+    let none: [f64; 0] = [];
+    let n = total_of(bins, bin_count(k));
+    let ranked = from_bins(bins, order, n as u32, k, &none);
+    ranking[0] = ranked.division as u64;
+    ranking[1] = pattern(ranked.z);
+    0
+}
+
+// The check of a finding and its bin order. Refusals 25, 1, 2, 9, 10, 11, 7, 13, 14.
+#[no_mangle]
+pub extern "C" fn jimrawel_validate(finding: &[u64], order: &[u32], scratch: &mut [u32]) -> u32
+    ensures { λ r. ⌜ CheckCall (now (finding .entry)) (now (order .entry)) (now (scratch .entry)) r (now (scratch .exit)) ⌝ }
+{
+    if finding.len() < 24 {
+        return 25;
+    }
+    validate(read_finding(finding), order, scratch)
+}
+
+// A finding on data. Refusals 25, 1, 2, 9, 10, 11, 12, 7, 13, 14.
+#[no_mangle]
+pub extern "C" fn jimrawel_evaluate_histogram(
+    finding: &[u64],
+    order: &[u32],
+    bytes: &[u8],
+    scratch: &mut [u32],
+    evaluated: &mut [u64],
+) -> u32
+    ensures { λ r. ⌜ EvaluateCall (now (finding .entry)) (now (order .entry)) (now (bytes .entry)) (now (scratch .entry)) (now (evaluated .entry)) r (now (scratch .exit)) (now (evaluated .exit)) ⌝ }
+{
+    if finding.len() < 24 {
+        return 25;
+    }
+    if evaluated.len() < 3 {
+        return 25;
+    }
+    let answer = evaluate_histogram(read_finding(finding), order, bytes, scratch);
+    write_evaluated(answer, evaluated);
+    answer.refusal
+}
+
+// The lengths of the two parts of the raw bytes. Refusals 25, 1, 8.
+#[no_mangle]
+pub extern "C" fn jimrawel_whole_blocks(
+    raw: &[u8],
+    block_size: usize,
+    training: bool,
+    lengths: &mut [u64],
+) -> u32
+    ensures { λ r. ⌜ SplitCall (now (raw .entry)) «block_size» training (now (lengths .entry)) r (now (lengths .exit)) ⌝ }
+{
+    if lengths.len() < 2 {
+        return 25;
+    }
+    let first = first_part(raw, block_size, training);
+    let second = second_part(raw, block_size, training);
+    lengths[0] = first.len() as u64;
+    lengths[1] = second.len() as u64;
+    split_refusal(raw, block_size)
+}
+
+// The plan of a sweep. Refusals 25, 1.
+#[no_mangle]
+pub extern "C" fn jimrawel_configurations(
+    block_size: usize,
+    data_size: usize,
+    plan: &mut [u64],
+) -> u32
+    ensures { λ r. ⌜ PlanCall «block_size» «data_size» (now (plan .entry)) r (now (plan .exit)) ⌝ }
+{
+    if plan.len() < 15 {
+        return 25;
+    }
+    let planned = configurations(block_size, data_size);
+    write_plan(planned, plan);
+    planned.refusal
+}

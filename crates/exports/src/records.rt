@@ -1,0 +1,191 @@
+// Records as numbers in slices that a host lends.
+ghost use mathlib.Core.Path.{_≡_};
+ghost use Prim.Native.Nat.{_+_, _≤_};
+ghost use mathlib.Core.List.{_++_, map};
+ghost use lib.Ieee.{binary64, toBits};
+ghost use lib.ListN.{length, take, drop, replicate};
+ghost use Rattle.subsets.specs.Rank.{rankedOf};
+ghost use Rattle.exports.specs.Records.{samplerOf, samplerNumbers, findingNumbers, findingRead, narrowed, scoreCase, scoreBits, evaluatedNumbers, planNumbers, written};
+use counting::sampling::Sampler;
+use judging::evaluation::Evaluated;
+use judging::evaluation::Score;
+use judging::plan::Plan;
+use searching::finding::Finding;
+use subsets::rank::Ranked;
+use subsets::rank::compute_index;
+
+// The sampler whose numbers stand first in the slice.
+pub fn read_sampler(numbers: &[u64]) -> Sampler
+    requires { ⌜ 3 ≤ length (now numbers) ⌝ }
+    ensures { λ r. ⌜ r ≡ samplerOf (now (numbers .entry)) ⌝ }
+{
+    Sampler {
+        block_size: numbers[0] as usize,
+        words: numbers[1] as usize,
+        taken: numbers[2] as usize,
+    }
+}
+
+// Puts the sampler's numbers first.
+pub fn write_sampler(sampler: Sampler, numbers: &mut [u64])
+    requires { ⌜ 3 ≤ length (now numbers) ⌝ }
+    ensures { λ _. ⌜ now (numbers .exit) ≡ written (samplerNumbers sampler) (now (numbers .entry)) ⌝ }
+{
+    numbers[0] = sampler.block_size as u64;
+    numbers[1] = sampler.words as u64;
+    numbers[2] = sampler.taken as u64;
+}
+
+// Puts the finding's numbers first.
+pub fn write_finding(finding: Finding, numbers: &mut [u64])
+    requires { ⌜ 24 ≤ length (now numbers) ⌝ }
+    ensures { λ _. ⌜ now (numbers .exit) ≡ written (findingNumbers finding) (now (numbers .entry)) ⌝ }
+{
+    numbers[0] = finding.block_size as u64;
+    numbers[1] = finding.width as u64;
+    numbers[2] = finding.division as u64;
+    numbers[3] = pattern(finding.z);
+    let bits = finding.bits;
+    write_bits(&bits[..], numbers);
+}
+
+// Puts the bits after the first four numbers.
+fn write_bits(bits: &[u32], numbers: &mut [u64])
+    requires { ⌜ 4 + length (now bits) ≤ length (now numbers) ⌝ }
+    ensures { λ _. ⌜ now (numbers .exit) ≡ (take 4 (now (numbers .entry)) ++ now (bits .entry)) ++ drop (4 + length (now (bits .entry))) (now (numbers .entry)) ⌝ }
+{
+    let mut i: usize = 0;
+    while i < bits.len() {
+        numbers[4 + i] = bits[i] as u64;
+        i += 1;
+    }
+}
+
+// A double's bits; those of the quiet NaN with no sign for every NaN.
+pub fn pattern(z: f64) -> u64
+    ensures { λ r. ⌜ r ≡ toBits binary64 z ⌝ }
+{
+    if z != z {
+        return 9221120237041090560;
+    }
+    f64::to_bits(z)
+}
+
+// The bits in an array of 20, with zeros past them.
+pub fn array_of(bits: &[u32]) -> [u32; 20]
+    requires { ⌜ length (now bits) ≤ 20 ⌝ }
+    ensures { λ r. ⌜ r ≡ written (now (bits .entry)) (replicate 20 0) ⌝ }
+{
+    let mut array = [0u32; 20];
+    let mut i: usize = 0;
+    while i < bits.len() {
+        array[i] = bits[i];
+        i += 1;
+    }
+    array
+}
+
+// The rank of the bits, however many.
+pub fn rank_of(block_size: usize, bits: &[u32]) -> Ranked
+    ensures { λ r. ⌜ r ≡ rankedOf «block_size» (length (now (bits .entry))) (now (bits .entry)) ⌝ }
+{
+    if bits.len() > 20 {
+        let none = [0u32; 20];
+        return compute_index(block_size, bits.len(), none);
+    }
+    compute_index(block_size, bits.len(), array_of(bits))
+}
+
+// The finding whose numbers stand first; z is left at 0, since judging does not read it.
+pub fn read_finding(numbers: &[u64]) -> Finding
+    requires { ⌜ 24 ≤ length (now numbers) ⌝ }
+    ensures { λ r. ⌜ r ≡ findingRead (now (numbers .entry)) ⌝ }
+{
+    let bits = read_bits(numbers);
+    Finding {
+        block_size: numbers[0] as usize,
+        width: numbers[1] as usize,
+        bits,
+        division: narrow(numbers[2]),
+        z: 0.0,
+    }
+}
+
+// The bits after the first four numbers.
+fn read_bits(numbers: &[u64]) -> [u32; 20]
+    requires { ⌜ 24 ≤ length (now numbers) ⌝ }
+    ensures { λ r. ⌜ r ≡ map narrowed (take 20 (drop 4 (now (numbers .entry)))) ⌝ }
+{
+    let mut bits = [0u32; 20];
+    let mut i: usize = 0;
+    while i < 20 {
+        bits[i] = narrow(numbers[4 + i]);
+        i += 1;
+    }
+    bits
+}
+
+// A number in 32 bits: the largest where it is larger.
+fn narrow(x: u64) -> u32
+    ensures { λ r. ⌜ r ≡ narrowed x ⌝ }
+{
+    if x > 4294967295 {
+        return 4294967295;
+    }
+    x as u32
+}
+
+// Puts the evaluation's numbers first.
+pub fn write_evaluated(evaluated: Evaluated, numbers: &mut [u64])
+    requires { ⌜ 3 ≤ length (now numbers) ⌝ }
+    ensures { λ _. ⌜ now (numbers .exit) ≡ written (evaluatedNumbers evaluated) (now (numbers .entry)) ⌝ }
+{
+    let score = evaluated.score;
+    numbers[0] = evaluated.positive as u64;
+    numbers[1] = score_case(score);
+    numbers[2] = score_bits(score);
+}
+
+// 1 where the score is a number, 0 for no sample.
+fn score_case(score: Score) -> u64
+    ensures { λ r. ⌜ r ≡ scoreCase score ⌝ }
+{
+    match score {
+        Score::Z(_) => 1,
+        Score::NoSample => 0,
+    }
+}
+
+// The bits of z, 0 for no sample.
+fn score_bits(score: Score) -> u64
+    ensures { λ r. ⌜ r ≡ scoreBits score ⌝ }
+{
+    match score {
+        Score::Z(z) => pattern(z),
+        Score::NoSample => 0,
+    }
+}
+
+// Puts the plan's numbers first.
+pub fn write_plan(plan: Plan, numbers: &mut [u64])
+    requires { ⌜ 15 ≤ length (now numbers) ⌝ }
+    ensures { λ _. ⌜ now (numbers .exit) ≡ written (planNumbers plan) (now (numbers .entry)) ⌝ }
+{
+    numbers[0] = plan.pairs as u64;
+    let blocks = plan.blocks;
+    write_sizes(&blocks[..], 1, numbers);
+    let widths = plan.widths;
+    write_sizes(&widths[..], 8, numbers);
+}
+
+// Puts the sizes at a place.
+fn write_sizes(sizes: &[usize], at: usize, numbers: &mut [u64])
+    requires { ⌜ at + length (now sizes) ≤ length (now numbers) ⌝ }
+    ensures { λ _. ⌜ now (numbers .exit) ≡ (take at (now (numbers .entry)) ++ now (sizes .entry)) ++ drop (at + length (now (sizes .entry))) (now (numbers .entry)) ⌝ }
+{
+    let mut i: usize = 0;
+    while i < sizes.len() {
+        numbers[at + i] = sizes[i] as u64;
+        i += 1;
+    }
+}

@@ -1,0 +1,59 @@
+/* A recording fed in two pieces, searched both ways, and the finding evaluated on other bytes. Prints what it finds. */
+#include "../jimrawel.h"
+
+#include <inttypes.h>
+#include <stdio.h>
+#include <string.h>
+
+#define B 8
+#define K 2
+#define BINS (1 << K)
+#define W (B * 2) /* the largest C(8, d) x 2^d for d from 1 to 1 */
+
+static double score(uint64_t bits) {
+    double z;
+    memcpy(&z, &bits, sizeof z);
+    return z;
+}
+
+static int failed(const char *what, uint32_t refusal) {
+    fprintf(stderr, "%s: refusal %" PRIu32 "\n", what, refusal);
+    return 1;
+}
+
+int main(void) {
+    const uint8_t training[] = {0x00, 0x00, 0xFF, 0xFF};
+    const uint8_t testing[] = {0x00, 0x80, 0xFF, 0xFF};
+    uint64_t words[B], sampler[JIMRAWEL_SAMPLER], finding[JIMRAWEL_FINDING], layered[JIMRAWEL_FINDING];
+    uint64_t evaluated[JIMRAWEL_EVALUATED];
+    uint32_t first[W], second[W], bins[BINS], order[BINS];
+    uint32_t refusal;
+
+    if ((refusal = jimrawel_start(B, words, B, sampler, JIMRAWEL_SAMPLER)) != JIMRAWEL_OK) return failed("start", refusal);
+    for (size_t at = 0; at < sizeof training; at += 2)
+        if ((refusal = jimrawel_feed(sampler, JIMRAWEL_SAMPLER, words, B, training + at, 2)) != JIMRAWEL_OK) return failed("feed", refusal);
+
+    refusal = jimrawel_brute_force(
+        sampler, JIMRAWEL_SAMPLER, words, B, K, first, W, second, W, bins, BINS, order, BINS, layered, JIMRAWEL_FINDING);
+    if (refusal != JIMRAWEL_OK) return failed("layered search", refusal);
+    refusal = jimrawel_brute_force_threads(
+        sampler, JIMRAWEL_SAMPLER, words, B, K, bins, BINS, order, BINS, finding, JIMRAWEL_FINDING);
+    if (refusal != JIMRAWEL_OK) return failed("direct search", refusal);
+    if (memcmp(finding, layered, sizeof finding) != 0) return failed("the searches differ", 0);
+
+    printf("bits");
+    for (size_t i = 0; i < finding[JIMRAWEL_WIDTH]; i++) printf(" %" PRIu64, finding[JIMRAWEL_BITS + i]);
+    printf(", order");
+    for (size_t i = 0; i < BINS; i++) printf(" %" PRIu32, order[i]);
+    printf(", division %" PRIu64 ", z %g\n", finding[JIMRAWEL_DIVISION], score(finding[JIMRAWEL_Z]));
+
+    refusal = jimrawel_evaluate_histogram(
+        finding, JIMRAWEL_FINDING, order, BINS, testing, sizeof testing, bins, BINS, evaluated, JIMRAWEL_EVALUATED);
+    if (refusal != JIMRAWEL_OK) return failed("evaluation", refusal);
+    printf("positive %" PRIu64 ", z %g\n", evaluated[0], score(evaluated[2]));
+
+    static const uint8_t long_piece[61];
+    refusal = jimrawel_feed(sampler, JIMRAWEL_SAMPLER, words, B, long_piece, sizeof long_piece);
+    printf("a piece past capacity: refusal %" PRIu32 "\n", refusal);
+    return 0;
+}

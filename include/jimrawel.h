@@ -1,0 +1,154 @@
+/* jimrawel.h: the bias search for recordings of hardware random generators.
+
+   Link target/staticlib/libexports.a, which `rt staticlib exports` writes (x86-64 Linux).
+   Every function is proved against a contract (crates/exports/src/lib.rt); the notes below say it in words.
+
+   Rules for all calls
+
+   - A slice is two arguments: the address of its first entry and its number of entries. All entries have to be readable, and
+     writable where the address is not const. Two slices of one call may overlap only where both are const. An empty slice may
+     have any address that is not null. Nothing is kept after a call returns, nothing is allocated, nothing is shared between
+     calls: calls with different slices may run at the same time.
+   - Each call takes any numbers at all. What it cannot take it refuses: the result is the number of the first refusal that
+     applies, in the order given at the call, and 0 where there is none (enum jimrawel_refusal).
+   - Where a call is refused, every lent entry is as it was lent, but for two things: a record that the call writes (a sampler by
+     jimrawel_start, a finding, an evaluation, two lengths, a plan) then has every number 0, and after 13 and 14 the first 2^width entries
+     of the scratch are 0. Beside 25 nothing at all is written.
+   - Entries past those that a call writes are as lent.
+
+   Records
+
+   - A sampler is 3 numbers: the block size B in bits, the number of lent words, and T, the bytes taken so far.
+     Its words are lent anew with every call; no one else may change them, or the sampler, from start to the last search.
+   - A finding is 24 numbers: the block size, the width k, the division, the bits of its score z as a double, and 20 bit entries, of which
+     the first k count and the others are 0. Beside it stands its bin order in a buffer of its own.
+   - Bit b of a block is bit 7 - b % 8 of its byte b / 8. The bin of a block is the sum of 2^i over the i whose bits[i] is set in it. */
+
+#ifndef JIMRAWEL_H
+#define JIMRAWEL_H
+
+#include <stdbool.h>
+#include <stddef.h>
+#include <stdint.h>
+
+#ifdef __cplusplus
+extern "C" {
+#endif
+
+#define JIMRAWEL_SAMPLER 3     /* numbers of a sampler */
+#define JIMRAWEL_FINDING 24    /* numbers of a finding */
+#define JIMRAWEL_RANKING 2     /* numbers of a ranking */
+#define JIMRAWEL_EVALUATED 3   /* numbers of an evaluation */
+#define JIMRAWEL_LENGTHS 2     /* numbers of a split */
+#define JIMRAWEL_PLAN 15       /* numbers of a plan */
+
+/* Places in a finding. */
+#define JIMRAWEL_BLOCK_SIZE 0
+#define JIMRAWEL_WIDTH 1
+#define JIMRAWEL_DIVISION 2
+#define JIMRAWEL_Z 3
+#define JIMRAWEL_BITS 4
+
+enum jimrawel_refusal {
+    JIMRAWEL_OK = 0,
+    JIMRAWEL_BAD_BLOCK_SIZE = 1,     /* B is no multiple of 8 from 8 to 4,096 */
+    JIMRAWEL_BAD_WIDTH = 2,          /* k is 0 or above 20 */
+    JIMRAWEL_WIDTH_ABOVE_BLOCK = 3,  /* k is above B */
+    JIMRAWEL_BAD_SAMPLER = 4,        /* its B is invalid, its number of words is not the lent one, or T is above capacity */
+    JIMRAWEL_FULL = 5,               /* the piece would go past capacity */
+    JIMRAWEL_SHORT_STORE = 6,        /* W is above 2^32, or a store has fewer than W entries */
+    JIMRAWEL_SHORT_BUFFER = 7,       /* bins, order or scratch have fewer than 2^k entries */
+    JIMRAWEL_FEW_BLOCKS = 8,         /* fewer than two blocks */
+    JIMRAWEL_BITS_NOT_RISING = 9,    /* the bits do not strictly increase */
+    JIMRAWEL_BIT_OUTSIDE = 10,       /* a bit is B or more */
+    JIMRAWEL_ORDER_LENGTH = 11,      /* the order has not 2^k entries */
+    JIMRAWEL_TOO_MANY = 12,          /* above 16,777,216 blocks to evaluate; for a rank, C(B, k) above 2^32 */
+    JIMRAWEL_NO_PERMUTATION = 13,    /* the order does not list every bin once */
+    JIMRAWEL_BAD_DIVISION = 14,      /* the division is 0, or 2^k or more */
+    JIMRAWEL_SHORT_RECORD = 25,      /* a slice has fewer numbers than the record that is read from it or written to it */
+    JIMRAWEL_TOO_MANY_COUNTED = 26   /* the counts of a ranking add up to 2^32 or more */
+};
+
+/* Starts a recording of blocks of block_size bits.
+     words    lent; all 0 afterwards. S = words / block_size of them hold a row of 64 x S blocks for each bit of a block:
+              capacity is 64 x S blocks, and never more than 16,777,216.
+     sampler  at least 3 numbers; the fresh sampler is written.
+   Refusals: 25, 1. */
+uint32_t jimrawel_start(size_t block_size, uint64_t *words, size_t words_len, uint64_t *sampler, size_t sampler_len);
+
+/* Takes the next piece of the recording, of any length, also empty; a block may be cut anywhere.
+     sampler  as start or the last feed left it; the next one is written in its place. As lent where refused.
+     words    the same words, as start or the last feed left them.
+     piece    is read.
+   Refusals: 25, 4, 5. After 5 a shorter piece may still be taken. */
+uint32_t jimrawel_feed(uint64_t *sampler, size_t sampler_len, uint64_t *words, size_t words_len, const uint8_t *piece, size_t piece_len);
+
+/* The direct search: counts every bin of every set of k bits over the whole blocks taken, and finds the best.
+     sampler, words  as the last feed left them; they are read.
+     bins     at least 2^k entries; the winner's counts are written to the first 2^k.
+     order    at least 2^k entries; the winner's bin order is written to the first 2^k.
+     finding  at least 24 numbers; the winner.
+   Refusals: 25, 4, 2, 3, 7. */
+uint32_t jimrawel_brute_force_threads(
+    const uint64_t *sampler, size_t sampler_len, const uint64_t *words, size_t words_len, size_t k,
+    uint32_t *bins, size_t bins_len, uint32_t *order, size_t order_len, uint64_t *finding, size_t finding_len);
+
+/* The layered search: the same answer with one count for each set, the others by subtraction from the sets of one bit fewer.
+     first, second  two stores of at least W entries each, W being the largest C(B, d) x 2^d for d from 1 to max(1, k - 1).
+                    Their first W entries are used and left with anything in them.
+     The rest as for the direct search.
+   Refusals: 25, 4, 2, 3, 6, 7. */
+uint32_t jimrawel_brute_force(
+    const uint64_t *sampler, size_t sampler_len, const uint64_t *words, size_t words_len, size_t k,
+    uint32_t *first, size_t first_len, uint32_t *second, size_t second_len,
+    uint32_t *bins, size_t bins_len, uint32_t *order, size_t order_len, uint64_t *finding, size_t finding_len);
+
+/* The rank of a set of bits: how many sets of as many bits come before it in lexicographic order.
+     bits  the bits, all of them; their number is the width.
+     rank  not null; the rank, or 0 where refused.
+   Refusals: 1, 2, 3, 9, 10, 12. */
+uint32_t jimrawel_compute_index(size_t block_size, const uint32_t *bits, size_t bits_len, size_t *rank);
+
+/* Ranks one set of k bits by the counts of its bins.
+     bins     the counts in the first 2^k entries; they are read.
+     order    at least 2^k entries; the bin order is written: falling counts, equal ones by rising bin.
+     ranking  at least 2 numbers; the division, and the bits of |z| there as a double. As lent where refused.
+   Refusals: 25, 2, 7, 26. */
+uint32_t jimrawel_from_bins(
+    size_t k, const uint32_t *bins, size_t bins_len, uint32_t *order, size_t order_len, uint64_t *ranking, size_t ranking_len);
+
+/* Checks a finding and its order before they are used: what a search left always passes.
+     finding  at least 24 numbers; z is not read. A division or a bit of 2^32 or more counts as 2^32 - 1.
+     order    2^width entries.
+     scratch  at least 2^width entries; its first 2^width are 0 afterwards unless the refusal comes before 13.
+   Refusals: 25, 1, 2, 9, 10, 11, 7, 13, 14. */
+uint32_t jimrawel_validate(
+    const uint64_t *finding, size_t finding_len, const uint32_t *order, size_t order_len, uint32_t *scratch, size_t scratch_len);
+
+/* Evaluates a finding on the whole blocks of other bytes.
+     finding, order, scratch  as for the check; after success the counts stand in the scratch's first 2^width entries.
+     bytes      are read; what is left after the last whole block counts nowhere.
+     evaluated  at least 3 numbers: how many blocks are in the first `division` bins of the order; 1 where there is a score and 0 for "no
+                sample", which is where there is no block; the bits of the score z, with its sign, as a double.
+   Refusals: 25, 1, 2, 9, 10, 11, 12, 7, 13, 14. */
+uint32_t jimrawel_evaluate_histogram(
+    const uint64_t *finding, size_t finding_len, const uint32_t *order, size_t order_len, const uint8_t *bytes, size_t bytes_len,
+    uint32_t *scratch, size_t scratch_len, uint64_t *evaluated, size_t evaluated_len);
+
+/* Splits raw bytes into two parts of whole blocks.
+     training  true: the first part is half of the blocks, rounded down, and the second the others. False: the first part is all blocks.
+     lengths   at least 2 numbers: the bytes of the first part, which starts at raw, and of the second, which follows it.
+   Refusals: 25, 1, 8. */
+uint32_t jimrawel_whole_blocks(
+    const uint8_t *raw, size_t raw_len, size_t block_size, bool training, uint64_t *lengths, size_t lengths_len);
+
+/* The plan of a sweep over block sizes for a recording of data_size bytes.
+     plan  at least 15 numbers: how many pairs there are, at most 7; 7 block sizes; their 7 widths. Entries past the pairs are 0.
+   Refusals: 25, 1. */
+uint32_t jimrawel_configurations(size_t block_size, size_t data_size, uint64_t *plan, size_t plan_len);
+
+#ifdef __cplusplus
+}
+#endif
+
+#endif

@@ -1,0 +1,87 @@
+use crate::refusal::{accepted, Refusal};
+use crate::raw;
+
+/// A distinguisher: bits of a block, the order of their bins, the division of that order and the score there.
+#[derive(Clone, Debug, PartialEq)]
+pub struct Finding {
+    numbers: [u64; 24],
+    bits: Vec<u32>,
+    order: Vec<u32>,
+    counts: Vec<u32>,
+}
+
+/// How many blocks were in the bins before the division, of which counts, and the score: none where there was no block.
+#[derive(Clone, Debug, PartialEq)]
+pub struct Evaluation {
+    pub positive: u32,
+    pub counts: Vec<u32>,
+    pub z: Option<f64>,
+}
+
+impl Finding {
+    pub(crate) fn found(numbers: [u64; 24], order: Vec<u32>, counts: Vec<u32>) -> Finding {
+        let bits = numbers[4..4 + numbers[1] as usize].iter().map(|&bit| bit as u32).collect();
+        Finding { numbers, bits, order, counts }
+    }
+
+    /// A finding from elsewhere, where it is sound. Its score and counts are not known: 0 and none.
+    pub fn checked(block_size: usize, bits: &[u32], order: &[u32], division: u32) -> Result<Finding, Refusal> {
+        let mut numbers = [0; 24];
+        numbers[..3].copy_from_slice(&[block_size as u64, bits.len() as u64, division as u64]);
+        for (number, &bit) in numbers[4..].iter_mut().zip(bits) {
+            *number = bit as u64;
+        }
+        let mut scratch = vec![0; order.len()];
+        accepted(unsafe {
+            raw::jimrawel_validate(
+                numbers.as_ptr(), numbers.len(),
+                order.as_ptr(), order.len(),
+                scratch.as_mut_ptr(), scratch.len(),
+            )
+        })?;
+        Ok(Finding::found(numbers, order.to_vec(), Vec::new()))
+    }
+
+    pub fn block_size(&self) -> usize {
+        self.numbers[0] as usize
+    }
+
+    pub fn bits(&self) -> &[u32] {
+        &self.bits
+    }
+
+    pub fn division(&self) -> u32 {
+        self.numbers[2] as u32
+    }
+
+    pub fn z(&self) -> f64 {
+        f64::from_bits(self.numbers[3])
+    }
+
+    /// The bins, those with the greatest counts first, equal counts by rising bin.
+    pub fn order(&self) -> &[u32] {
+        &self.order
+    }
+
+    /// The counts of the bins in the data that was searched.
+    pub fn counts(&self) -> &[u32] {
+        &self.counts
+    }
+
+    /// How the finding does on the whole blocks of other bytes.
+    pub fn evaluate(&self, bytes: &[u8]) -> Result<Evaluation, Refusal> {
+        let mut counts = vec![0; self.order.len()];
+        let mut numbers = [0; 3];
+        accepted(unsafe {
+            raw::jimrawel_evaluate_histogram(
+                self.numbers.as_ptr(), self.numbers.len(),
+                self.order.as_ptr(), self.order.len(),
+                bytes.as_ptr(), bytes.len(),
+                counts.as_mut_ptr(), counts.len(),
+                numbers.as_mut_ptr(), numbers.len(),
+            )
+        })?;
+        let z = (numbers[1] == 1).then(|| f64::from_bits(numbers[2]));
+        Ok(Evaluation { positive: numbers[0] as u32, counts, z })
+    }
+}

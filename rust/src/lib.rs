@@ -1,0 +1,53 @@
+//! The bias search for recordings of hardware random generators, over the proved library's C interface (include/jimrawel.h).
+//!
+//! A [`Sampler`] owns its words, so it cannot meet others; a [`Finding`] comes only from a search or a check, with its own bin order. Buffers have
+//! the right size by construction, and what is refused is a [`Refusal`].
+//!
+//! ```
+//! use jimrawel::{Refusal, Sampler};
+//! let mut sampler = Sampler::start(8, 64)?;
+//! sampler.feed(&[0x00, 0x00, 0xFF])?;
+//! sampler.feed(&[0xFF])?;
+//! let finding = sampler.search_layered(2)?;
+//! assert_eq!(finding, sampler.search_direct(2)?);
+//! assert_eq!((finding.bits(), finding.order(), finding.division(), finding.z()), (&[0, 1][..], &[0, 3, 1, 2][..], 2, 2.0));
+//! let evaluation = finding.evaluate(&[0x00, 0x80, 0xFF, 0xFF])?;
+//! assert_eq!((evaluation.positive, evaluation.z), (3, Some(1.0)));
+//! assert_eq!(Sampler::start(12, 64).unwrap_err(), Refusal::BlockSize);
+//! # Ok::<(), Refusal>(())
+//! ```
+
+pub mod raw;
+mod finding;
+mod refusal;
+mod sampler;
+
+pub use finding::{Evaluation, Finding};
+pub use refusal::Refusal;
+pub use sampler::Sampler;
+
+use refusal::accepted;
+
+/// How many subsets of as many bits come before these, in lexicographic order.
+pub fn rank(block_size: usize, bits: &[u32]) -> Result<usize, Refusal> {
+    let mut rank = 0;
+    accepted(unsafe { raw::jimrawel_compute_index(block_size, bits.as_ptr(), bits.len(), &mut rank) })?;
+    Ok(rank)
+}
+
+/// The training and the testing blocks of raw bytes; without training the first part is all whole blocks.
+pub fn split(bytes: &[u8], block_size: usize, training: bool) -> Result<(&[u8], &[u8]), Refusal> {
+    let mut lengths = [0; 2];
+    accepted(unsafe {
+        raw::jimrawel_whole_blocks(bytes.as_ptr(), bytes.len(), block_size, training, lengths.as_mut_ptr(), 2)
+    })?;
+    let (first, rest) = bytes.split_at(lengths[0] as usize);
+    Ok((first, &rest[..lengths[1] as usize]))
+}
+
+/// The pairs of a block size and a width that a sweep searches, for a recording of so many bytes.
+pub fn plan(block_size: usize, data_size: usize) -> Result<Vec<(usize, usize)>, Refusal> {
+    let mut plan = [0; 15];
+    accepted(unsafe { raw::jimrawel_configurations(block_size, data_size, plan.as_mut_ptr(), plan.len()) })?;
+    Ok((0..plan[0] as usize).map(|i| (plan[1 + i] as usize, plan[8 + i] as usize)).collect())
+}

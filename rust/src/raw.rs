@@ -1,0 +1,76 @@
+//! The C interface as it stands in include/jimrawel.h, which says what is lent and what is left.
+//! A slice is an address and a number of entries; the address has to be valid for all of them, and no two lent slices may overlap.
+
+extern "C" {
+    pub fn jimrawel_start(
+        block_size: usize,
+        words: *mut u64, words_len: usize,
+        sampler: *mut u64, sampler_len: usize,
+    ) -> u32;
+
+    pub fn jimrawel_feed(
+        sampler: *mut u64, sampler_len: usize,
+        words: *mut u64, words_len: usize,
+        piece: *const u8, piece_len: usize,
+    ) -> u32;
+
+    pub fn jimrawel_brute_force_threads(
+        sampler: *const u64, sampler_len: usize,
+        words: *const u64, words_len: usize,
+        k: usize,
+        bins: *mut u32, bins_len: usize,
+        order: *mut u32, order_len: usize,
+        finding: *mut u64, finding_len: usize,
+    ) -> u32;
+
+    pub fn jimrawel_brute_force(
+        sampler: *const u64, sampler_len: usize,
+        words: *const u64, words_len: usize,
+        k: usize,
+        first: *mut u32, first_len: usize,
+        second: *mut u32, second_len: usize,
+        bins: *mut u32, bins_len: usize,
+        order: *mut u32, order_len: usize,
+        finding: *mut u64, finding_len: usize,
+    ) -> u32;
+
+    pub fn jimrawel_compute_index(
+        block_size: usize,
+        bits: *const u32, bits_len: usize,
+        rank: *mut usize,
+    ) -> u32;
+
+    pub fn jimrawel_from_bins(
+        k: usize,
+        bins: *const u32, bins_len: usize,
+        order: *mut u32, order_len: usize,
+        ranking: *mut u64, ranking_len: usize,
+    ) -> u32;
+
+    pub fn jimrawel_validate(
+        finding: *const u64, finding_len: usize,
+        order: *const u32, order_len: usize,
+        scratch: *mut u32, scratch_len: usize,
+    ) -> u32;
+
+    pub fn jimrawel_evaluate_histogram(
+        finding: *const u64, finding_len: usize,
+        order: *const u32, order_len: usize,
+        bytes: *const u8, bytes_len: usize,
+        scratch: *mut u32, scratch_len: usize,
+        evaluated: *mut u64, evaluated_len: usize,
+    ) -> u32;
+
+    pub fn jimrawel_whole_blocks(
+        raw: *const u8, raw_len: usize,
+        block_size: usize,
+        training: bool,
+        lengths: *mut u64, lengths_len: usize,
+    ) -> u32;
+
+    pub fn jimrawel_configurations(
+        block_size: usize,
+        data_size: usize,
+        plan: *mut u64, plan_len: usize,
+    ) -> u32;
+}

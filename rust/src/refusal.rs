@@ -1,0 +1,79 @@
+/// Why a call was refused, by its number in the C interface.
+#[derive(Clone, Copy, Debug, PartialEq, Eq)]
+#[repr(u32)]
+pub enum Refusal {
+    /// The block size is no multiple of 8 from 8 to 4,096.
+    BlockSize = 1,
+    /// The width is 0 or above 20.
+    Width = 2,
+    /// The width is above the block size.
+    WidthAboveBlock = 3,
+    /// The sampler is none of the lent words.
+    Sampler = 4,
+    /// The piece would go past capacity.
+    Full = 5,
+    /// A layer store would need more than 2^32 entries, or is too short.
+    Store = 6,
+    /// A buffer is too short.
+    Buffer = 7,
+    /// There are fewer than two blocks.
+    FewBlocks = 8,
+    /// The bits do not strictly increase.
+    BitsNotRising = 9,
+    /// A bit is outside the block.
+    BitOutside = 10,
+    /// The order has another length than the bins.
+    OrderLength = 11,
+    /// There are too many blocks to evaluate, or subsets to rank.
+    TooMany = 12,
+    /// The order does not list every bin once.
+    NoPermutation = 13,
+    /// The division is 0, or the number of bins or more.
+    Division = 14,
+    /// A slice is too short for its record.
+    ShortRecord = 25,
+    /// The counts of a ranking add up to 2^32 or more.
+    TooManyCounted = 26,
+}
+
+const ALL: [Refusal; 16] = [
+    Refusal::BlockSize,
+    Refusal::Width,
+    Refusal::WidthAboveBlock,
+    Refusal::Sampler,
+    Refusal::Full,
+    Refusal::Store,
+    Refusal::Buffer,
+    Refusal::FewBlocks,
+    Refusal::BitsNotRising,
+    Refusal::BitOutside,
+    Refusal::OrderLength,
+    Refusal::TooMany,
+    Refusal::NoPermutation,
+    Refusal::Division,
+    Refusal::ShortRecord,
+    Refusal::TooManyCounted,
+];
+
+impl Refusal {
+    /// Its number.
+    pub fn number(self) -> u32 {
+        self as u32
+    }
+}
+
+impl std::fmt::Display for Refusal {
+    fn fmt(&self, out: &mut std::fmt::Formatter) -> std::fmt::Result {
+        write!(out, "refusal {}: {self:?}", self.number())
+    }
+}
+
+impl std::error::Error for Refusal {}
+
+/// Nothing for 0, else the refusal.
+pub(crate) fn accepted(number: u32) -> Result<(), Refusal> {
+    match ALL.iter().find(|refusal| refusal.number() == number) {
+        Some(&refusal) => Err(refusal),
+        None => Ok(assert_eq!(number, 0, "a refusal that no call gives")),
+    }
+}

@@ -1,0 +1,111 @@
+use crate::finding::Finding;
+use crate::refusal::{accepted, Refusal};
+use crate::raw;
+
+/// A recording in progress, with the words that hold it.
+#[derive(Clone, Debug)]
+pub struct Sampler {
+    numbers: [u64; 3],
+    words: Vec<u64>,
+}
+
+impl Sampler {
+    /// A recording of blocks of `block_size` bits, with room for at least `blocks` of them, up to 16,777,216.
+    pub fn start(block_size: usize, blocks: usize) -> Result<Sampler, Refusal> {
+        let mut sampler = Sampler { numbers: [0; 3], words: Vec::new() };
+        sampler.call_start(block_size)?;
+        sampler.words = vec![0; block_size * blocks.min(16_777_216).div_ceil(64)];
+        sampler.call_start(block_size)?;
+        Ok(sampler)
+    }
+
+    fn call_start(&mut self, block_size: usize) -> Result<(), Refusal> {
+        let Sampler { numbers, words } = self;
+        accepted(unsafe {
+            raw::jimrawel_start(block_size, words.as_mut_ptr(), words.len(), numbers.as_mut_ptr(), numbers.len())
+        })
+    }
+
+    pub fn block_size(&self) -> usize {
+        self.numbers[0] as usize
+    }
+
+    /// The bytes taken so far.
+    pub fn taken(&self) -> usize {
+        self.numbers[2] as usize
+    }
+
+    /// The whole blocks taken so far.
+    pub fn blocks(&self) -> usize {
+        self.taken() / (self.block_size() / 8)
+    }
+
+    /// Takes the next piece. Where it is refused nothing has changed.
+    pub fn feed(&mut self, piece: &[u8]) -> Result<(), Refusal> {
+        let Sampler { numbers, words } = self;
+        accepted(unsafe {
+            raw::jimrawel_feed(
+                numbers.as_mut_ptr(), numbers.len(),
+                words.as_mut_ptr(), words.len(),
+                piece.as_ptr(), piece.len(),
+            )
+        })
+    }
+
+    /// The best set of `k` bits, every bin counted.
+    pub fn search_direct(&self, k: usize) -> Result<Finding, Refusal> {
+        let Sampler { numbers, words } = self;
+        let (mut bins, mut order, mut finding) = buffers(k);
+        accepted(unsafe {
+            raw::jimrawel_brute_force_threads(
+                numbers.as_ptr(), numbers.len(),
+                words.as_ptr(), words.len(),
+                k,
+                bins.as_mut_ptr(), bins.len(),
+                order.as_mut_ptr(), order.len(),
+                finding.as_mut_ptr(), finding.len(),
+            )
+        })?;
+        Ok(Finding::found(finding, order, bins))
+    }
+
+    /// The same by subtraction from layer to layer: faster, with two stores that are allocated for it.
+    pub fn search_layered(&self, k: usize) -> Result<Finding, Refusal> {
+        let Sampler { numbers, words } = self;
+        let (mut bins, mut order, mut finding) = buffers(k);
+        let size = store_size(self.block_size(), k);
+        let (mut first, mut second) = (vec![0; size], vec![0; size]);
+        accepted(unsafe {
+            raw::jimrawel_brute_force(
+                numbers.as_ptr(), numbers.len(),
+                words.as_ptr(), words.len(),
+                k,
+                first.as_mut_ptr(), first.len(),
+                second.as_mut_ptr(), second.len(),
+                bins.as_mut_ptr(), bins.len(),
+                order.as_mut_ptr(), order.len(),
+                finding.as_mut_ptr(), finding.len(),
+            )
+        })?;
+        Ok(Finding::found(finding, order, bins))
+    }
+}
+
+/// Bins, order and finding for a width, empty for one that is refused.
+fn buffers(k: usize) -> (Vec<u32>, Vec<u32>, [u64; 24]) {
+    let bins = if k <= 20 { 1 << k } else { 0 };
+    (vec![0; bins], vec![0; bins], [0; 24])
+}
+
+/// The entries of a store, the largest C(B, d) x 2^d for d from 1 to max(1, k - 1); 0 where the search is refused anyway.
+fn store_size(block_size: usize, k: usize) -> usize {
+    if !(1..=20.min(block_size)).contains(&k) {
+        return 0;
+    }
+    let (mut largest, mut choose) = (0_u128, 1_u128);
+    for d in 1..=(k - 1).max(1) {
+        choose = choose * (block_size - d + 1) as u128 / d as u128;
+        largest = largest.max(choose << d);
+    }
+    if largest <= 1 << 32 { largest as usize } else { 0 }
+}
