@@ -12,7 +12,7 @@
    - Each call takes any numbers at all. What it cannot take it refuses: the result is the number of the first refusal that
      applies, in the order given at the call, and 0 where there is none (enum jimrawel_refusal).
    - Where a call is refused, every lent entry is as it was lent, but for two things: a record that the call writes (a sampler by
-     jimrawel_start, a finding, an evaluation, two lengths, a plan) then has every number 0, and after 13 and 14 the first 2^width entries
+     jimrawel_start, a finding, a rank, an evaluation, two lengths, a plan; not a ranking) then has every number 0, and after 13 and 14 the first 2^width entries
      of the scratch are 0. Beside 25 nothing at all is written.
    - Entries past those that a call writes are as lent.
 

@@ -1,7 +1,8 @@
 //! Times of our calls and of the reference's, in one run, on drawn bytes.
 
 use crate::ours;
-use answers::{brute_force, brute_force_threads, choose, from_bins, transform_data, Draws};
+use crate::recordings::store_size;
+use answers::{brute_force, brute_force_threads, from_bins, transform_data, Draws};
 use std::{hint::black_box, time::Instant};
 
 fn seconds(run: &mut dyn FnMut()) -> f64 {
@@ -20,11 +21,6 @@ fn compare(name: &str, ours: &mut dyn FnMut(), reference: &mut dyn FnMut()) {
         runs += 1;
     }
     println!("| {name} | {:.2} | {:.2} | {:.2} |", best[0] * 1e3, best[1] * 1e3, best[0] / best[1]);
-}
-
-/// The entries that a layer store needs.
-pub fn store_size(block_size: usize, k: usize) -> usize {
-    (1..=(k - 1).max(1)).map(|d| choose(block_size, d) << d).max().unwrap()
 }
 
 fn searches(block_size: usize, k: usize, bytes: usize) {
@@ -46,7 +42,7 @@ fn searches(block_size: usize, k: usize, bytes: usize) {
     );
 
     let rows = transform_data(&data, block_size);
-    let size = store_size(block_size, k);
+    let size = store_size(block_size, k).unwrap();
     let (mut first, mut second) = (vec![0; size], vec![0; size]);
     let (mut bins, mut order) = (vec![0; 1 << k], vec![0; 1 << k]);
     let (mut found, mut expected) = (None, None);

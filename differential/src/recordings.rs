@@ -33,7 +33,7 @@ fn layered_work(block_size: usize, k: usize) -> usize {
 }
 
 /// The entries of a store, where they are at most 2^32.
-fn store_size(block_size: usize, k: usize) -> Option<usize> {
+pub fn store_size(block_size: usize, k: usize) -> Option<usize> {
     let size = (1..=(k - 1).max(1)).map(|d| choose(block_size, d).saturating_mul(1 << d)).max().unwrap();
     (size <= 1 << 32).then_some(size)
 }
