@@ -1,4 +1,4 @@
--- The rankings of document 01's cases 1 to 4, from their counts, computed. Assumes nothing.
+-- The rankings of the rules' cases 1 to 4, from their counts, computed. Assumes nothing.
 use mathlib.Core.Path.{_≡_, refl}
 use Prim.Native.Nat.{ℕ}
 use mathlib.Core.Bool.{false}

@@ -1,5 +1,6 @@
 pub mod Standing
 pub mod Permuting
+pub mod Tallying
 pub mod Sorting
 pub mod Gaps
 pub mod Totals

@@ -1,3 +1,4 @@
 pub mod Order
+pub mod Keys
 pub mod Peak
 pub mod Ranking

@@ -16,6 +16,7 @@ use lib.Ieee.Nearest.{closest, closest-same}
 use lib.Ieee.Order.{drop, kept}
 use lib.Ieee.Scale.{round-val}
 use Rattle.scoring.specs.Units.{isqrt, isqrtFrom, rootOf}
+use Rattle.scoring.specs.Whole.{Within}
 use Rattle.scoring.proofs.Squares.{square-mono, below-root, square-odd}
 use Rattle.scoring.proofs.Doubles.{normal-value, value-unique}
 
@@ -54,7 +55,7 @@ rounded-is n d q g D lo hi below above =
 
 -- ---- `isqrt`
 abbrev pub Root : ℕ → ℕ → Type 0
-Root n r = (r * r ≤ n) × (n < (r + 1) * (r + 1))
+Root n r = Within n r 1
 
 isqrtFrom-is : (d n s : ℕ) → s * s ≤ n → n < (s + 2 ^ d) * (s + 2 ^ d) → Root n (isqrtFrom d n s)
 unfolding isqrtFrom

@@ -1,4 +1,5 @@
 pub mod Halves
 pub mod Units
+pub mod Whole
 pub mod Root
 pub mod Score

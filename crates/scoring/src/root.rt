@@ -3,44 +3,56 @@ ghost use mathlib.Core.Path.{_≡_};
 ghost use Prim.Native.Nat.{ℕ, _+_, _*_, _<_, _≤_, _^_};
 ghost use Rattle.scoring.specs.Root as Root;
 ghost use Rattle.scoring.specs.Units.{rootOf};
+ghost use Rattle.scoring.specs.Whole.{Within, Step};
 
-// The whole part of the root of a, by halving the interval s .. s + e that it lies in.
-fn whole_root(a: u64) -> u64
-    requires { ⌜ a < 2 ^ 54 ⌝ }
-    ensures { λ r. ⌜ (r * r ≤ a) × (a < (r + 1) * (r + 1)) × (r < 2 ^ 27) ⌝ }
+// A nearer t for the root of a, which lies in t .. t + e: where the chord of the squares between those two meets a. That is never past the root.
+fn nearer(a: u64, t: u64, e: u64) -> u64
+    requires { ⌜ Within a t e × (1 ≤ t) × (t + e ≤ 2 ^ 28) ⌝ }
+    ensures { λ r. ⌜ (t ≤ r) × ((f : ℕ) → e * e ≤ 4 * f * (2 * t + e) → Within a r (f + 1)) ⌝ }
 {
-    let mut s: u64 = 0;
-    let mut e: u64 = 134217728;
-    while 1 < e {
-        let h = e / 2;
-        let t = s + h;
-        if t * t <= a {
-            s = t;
-        }
-        e = e - h;
-    }
-    s
+    t + (a - t * t) / (2 * t + e)
 }
 
-// The whole part of the root of a * 2 ^ 54: to the 27 digits of the root of a come 27 more, each from the rest r.
-fn root_digits(a: u64) -> u64
-    requires { ⌜ a < 2 ^ 54 ⌝ }
-    ensures { λ r. ⌜ (r * r ≤ a * 2 ^ 54) × (a * 2 ^ 54 < (r + 1) * (r + 1)) × (r < 2 ^ 54) ⌝ }
+// The whole part of a root from a t near below it: q is right, or one too many.
+fn settled(t: u64, q: u64, u: u64) -> u64
+    requires { ⌜ (t < 2 ^ 54) × (q < 2 ^ 32) ⌝ }
+    ensures { λ r. ⌜ ((n p : ℕ) → Step n t p q u → Within n r 1) ⌝ }
 {
-    let mut s = whole_root(a);
-    let mut r = a - s * s;
-    let mut j: u64 = 0;
-    while j < 27 {
-        r = 4 * r;
-        let t = 4 * s + 1;
-        s = 2 * s;
-        if t <= r {
-            r = r - t;
-            s = s + 1;
-        }
-        j = j + 1;
+    if q * q <= u {
+        return t + q;
     }
-    s
+    t + q - 1
+}
+
+// A first t, less than 2 ^ 21 below the root, from the chord of half of a's range: 94906265 is the root of 2 ^ 53.
+fn first(a: u64) -> u64
+    requires { ⌜ (2 ^ 52 ≤ a) × (a < 2 ^ 54) ⌝ }
+    ensures { λ r. ⌜ Within a r (2 ^ 21) × (2 ^ 26 ≤ r) ⌝ }
+{
+    if a < 9007199254740992 {
+        return nearer(a, 67108864, 27797402);
+    }
+    nearer(a, 94906265, 39311463)
+}
+
+// The whole part of the root of a. The second chord leaves less than 2 ^ 13, near enough for the step.
+fn whole_root(a: u64) -> u64
+    requires { ⌜ (2 ^ 52 ≤ a) × (a < 2 ^ 54) ⌝ }
+    ensures { λ r. ⌜ Within a r 1 × (2 ^ 26 ≤ r) × (r < 2 ^ 27) ⌝ }
+{
+    let t = nearer(a, first(a), 2097152);
+    let d = a - t * t;
+    settled(t, d / (2 * t), d % (2 * t))
+}
+
+// The whole part of the root of a * 2 ^ 54: to the 27 digits s of the root of a come 27 more in one step, from s * 2 ^ 27.
+fn root_digits(a: u64) -> u64
+    requires { ⌜ (2 ^ 52 ≤ a) × (a < 2 ^ 54) ⌝ }
+    ensures { λ r. ⌜ Within (a * 2 ^ 54) r 1 × (r < 2 ^ 54) ⌝ }
+{
+    let s = whole_root(a);
+    let d = (a - s * s) * 67108864;
+    settled(s * 134217728, d / s, d % s * 268435456)
 }
 
 // The double nearest the root of m * 2 ^ e / 2 ^ 1022 units, for an m of 53 digits. The root's 54th digit says which way to round: a root of so many digits is never halfway.

@@ -23,7 +23,7 @@ radicand c =
     (c .if1 .came)
 
 root-digits-requires : tie.Need-root-digits-requires
-root-digits-requires c κs = omega (arith, radicand c .1)
+root-digits-requires c κs = omega (arith, radicand c .0, radicand c .1)
 
 add-q : tie.Need-add-q
 add-q c = search needs
@@ -35,10 +35,10 @@ add-result : tie.Need-add-result
 add-result c = search needs
 
 root-of : (c : tie.After-root-digits) → Root (c .before .if1 .a * 2 ^ 54) (c .root-digits .result)
-root-of c = (c .root-digits .ensures .0, c .root-digits .ensures .1)
+root-of c = c .root-digits .ensures .0
 
 float-from-bits-result : tie.Need-float-from-bits-result
-float-from-bits-result c = no-nan (omega (arith, c .root-digits .ensures .2, c .before .before .pre .2))
+float-from-bits-result c = no-nan (omega (arith, c .root-digits .ensures .1, c .before .before .pre .2))
 
 returns : tie.Need-returns
 returns c =

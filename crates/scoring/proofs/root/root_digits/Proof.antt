@@ -1,90 +1,60 @@
--- `root::root_digits` meets its contract: s is the root of a * 4 ^ j, and r the rest. The measure is 27 - j.
-use mathlib.Core.Path.{_≡_, subst}
-use Prim.Native.Nat.{ℕ, _-_, _^_, _<_}
+-- `root::root_digits` meets its contract: the step is taken from s * 2 ^ 27 for a * 2 ^ 54.
+use Prim.Native.Nat.{_-_, _*_, _/_, _%_, _^_}
 use native.Mathlib.Omega.{arith}
-use mathlib.Core.Logic.{⊎-elim}
-use Rattle.scoring.proofs.Squares.{Digits, small-yet, digit-one, digit-zero, first-digits, last-digits}
+use borrow.Author.Needs.{needs}
+use Rattle.scoring.specs.Whole.{Step}
+use Rattle.scoring.proofs.Squares.{widened, step-short, root-below}
 use Rattle.scoring.proofs.root.root_digits.Statement.{statement}
 use Rattle.scoring.proofs.root.root_digits.Tie as tie
 
-abbrev Inv-loop : tie.InvT-loop
-Inv-loop a s₀ r₀ j₀ s r j = Digits a j s r
+whole-root-requires : tie.Need-whole-root-requires
+whole-root-requires c κs = search needs
 
-abbrev μ-loop : tie.MeasureT-loop
-μ-loop a s₀ r₀ j₀ s r j = 27 - j
+mul-d : tie.Need-mul-d
+mul-d c = search needs
 
-whole-root-requires : tie.Need-whole-root-requires Inv-loop μ-loop
-whole-root-requires c κs = omega arith
+sub-d : tie.Need-sub-d
+sub-d c = search needs
 
-mul-r : tie.Need-mul-r Inv-loop μ-loop
-mul-r c = omega arith
+mul-d-2 : tie.Need-mul-d-2
+mul-d-2 c = search needs
 
-sub-r : tie.Need-sub-r Inv-loop μ-loop
-sub-r c = omega arith
+mul-settled : tie.Need-mul-settled
+mul-settled c = search needs
 
-loop-holds : tie.Need-loop-holds Inv-loop μ-loop
-loop-holds c = first-digits (c .before .args .a) (c .whole-root .result) (c .whole-root .ensures .0) (c .whole-root .ensures .1) (c .whole-root .ensures .2)
+div-settled : tie.Need-div-settled
+div-settled c = search needs
 
--- s stays below 2 ^ 53 while a digit is to come
-held : (c : tie.In-loop Inv-loop μ-loop) → c .before .loop .s < 2 ^ 53
-held c = small-yet (c .before .before .before .args .a) (c .before .loop .j) (c .before .loop .s) (c .before .loop .r) (omega arith) (c .before .loop .inv)
+rem-settled : tie.Need-rem-settled
+rem-settled c = search needs
 
-mul-r-2 : tie.Need-mul-r-2 Inv-loop μ-loop
-mul-r-2 c = omega (arith, held c)
+-- the step from s
+step : (c : tie.After-whole-root) → Step (c .before .args .a * 2 ^ 54) (c .whole-root .result * 2 ^ 27) (2 ^ 27) ((c .before .args .a - c .whole-root .result * c .whole-root .result) * 2 ^ 26 / c .whole-root .result) ((c .before .args .a - c .whole-root .result * c .whole-root .result) * 2 ^ 26 % c .whole-root .result * 2 ^ 28)
+step c = widened (c .before .args .a) (c .whole-root .result) (c .whole-root .ensures .1) (c .whole-root .ensures .0)
 
-mul-t : tie.Need-mul-t Inv-loop μ-loop
-mul-t c = omega (arith, held c)
+mul-settled-2 : tie.Need-mul-settled-2
+mul-settled-2 c = omega (arith, step c .rest)
 
-add-t : tie.Need-add-t Inv-loop μ-loop
-add-t c = omega (arith, held c)
+settled-requires : tie.Need-settled-requires
+settled-requires c κs = omega (arith, step-short (step c))
 
-mul-s : tie.Need-mul-s Inv-loop μ-loop
-mul-s c = omega (arith, held c)
-
-add-s : tie.Need-add-s Inv-loop μ-loop
-add-s c = omega (arith, held (c .before))
-
-add-j : tie.Need-add-j Inv-loop μ-loop
-add-j c = omega arith
-
-loop-less : tie.Need-loop-less Inv-loop μ-loop
-loop-less c = omega arith
-
-loop-again : tie.Need-loop-again Inv-loop μ-loop
-loop-again c =
-    let p = c .before .before in
-    let a = p .before .before .args .a in
-    let s = p .loop .s in
-    let r = p .loop .r in
-    let j = p .loop .j in
-    let h : j < 27 = omega arith in
-    ⊎-elim
-    (λ w. rw (w .1, w .2) (digit-one a j s r h (p .loop .inv) (w .0 .taken)))
-    (λ w. rw (w .1, w .2) (digit-zero a j s r h (p .loop .inv) (w .0 .left)))
-    (c .if1 .came)
-
-returns : tie.Need-returns Inv-loop μ-loop
+returns : tie.Need-returns
 returns c =
-    let p = c .before in
-    let e : p .loop .j ≡ 27 = omega arith in
-    last-digits (p .before .before .args .a) (p .loop .s) (p .loop .r) (subst (λ (j : ℕ). Digits (p .before .before .args .a) j (p .loop .s) (p .loop .r)) e (p .loop .inv))
+    let a = c .before .before .args .a in
+    let h = c .settled .ensures (a * 2 ^ 54) (2 ^ 27) (step (c .before)) in
+    (h, root-below (a * 2 ^ 54) (c .settled .result) (2 ^ 54) (h .0) (omega arith))
 
 pub root-digits-spec : {M : Type 1} → statement M
 root-digits-spec =
     tie.close
     (tie.spec
-    Inv-loop
-    μ-loop
     whole-root-requires
-    mul-r
-    sub-r
-    loop-holds
-    mul-r-2
-    mul-t
-    add-t
-    mul-s
-    add-s
-    add-j
-    loop-less
-    loop-again
+    mul-d
+    sub-d
+    mul-d-2
+    mul-settled
+    div-settled
+    rem-settled
+    mul-settled-2
+    settled-requires
     returns)

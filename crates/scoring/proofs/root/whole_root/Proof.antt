@@ -1,55 +1,64 @@
--- `root::whole_root` meets its contract: a lies between the squares of s and s + e. The measure is e.
-use mathlib.Core.Path.{sym, subst}
-use Prim.Native.Nat.{ℕ, _+_, _-_, _/_, _^_, _≤_}
-use native.Mathlib.Nat.{lt-of-lt-of-le}
+-- `root::whole_root` meets its contract: the chord brings t near enough for the step.
+use Prim.Native.Nat.{_^_, _<_}
 use native.Mathlib.Omega.{arith}
-use mathlib.Core.Logic.{⊎-elim}
-use Rattle.scoring.proofs.Squares.{Within, square-mono, upper-half, lower-half}
+use borrow.Author.Needs.{needs}
+use Rattle.scoring.specs.Whole.{Within}
+use Rattle.scoring.proofs.Squares.{root-below, root-least, ended, step-short}
 use Rattle.scoring.proofs.root.whole_root.Statement.{statement}
 use Rattle.scoring.proofs.root.whole_root.Tie as tie
 
-abbrev Inv-loop : tie.InvT-loop
-Inv-loop a s₀ e₀ s e = Within a s e
+first-requires : tie.Need-first-requires
+first-requires c κs = search needs
 
-abbrev μ-loop : tie.MeasureT-loop
-μ-loop a s₀ e₀ s e = e
+nearer-requires : tie.Need-nearer-requires
+nearer-requires c κs = let f = c .first .ensures in omega (arith, f, root-below (c .before .args .a) (c .first .result) (2 ^ 27) (f .0 .0) (omega arith))
 
-loop-holds : tie.Need-loop-holds Inv-loop μ-loop
-loop-holds c = omega arith
+-- what the chord leaves
+left : (c : tie.After-nearer) → Within (c .before .before .args .a) (c .nearer .result) (2 ^ 13)
+left c = c .nearer .ensures .1 8191 (omega arith)
 
-add-t : tie.Need-add-t Inv-loop μ-loop
-add-t c = omega arith
+small : (c : tie.After-nearer) → c .nearer .result < 2 ^ 27
+small c = root-below (c .before .before .args .a) (c .nearer .result) (2 ^ 27) (left c .0) (omega arith)
 
-mul-if1 : tie.Need-mul-if1 Inv-loop μ-loop
-mul-if1 c =
-    let h : c .before .loop .s + c .before .loop .e / 2 ≤ 2 ^ 27 = omega arith in
-    omega (arith, square-mono h)
+mul-d : tie.Need-mul-d
+mul-d c = omega (arith, left c .0)
 
-sub-e : tie.Need-sub-e Inv-loop μ-loop
-sub-e c = omega arith
+sub-d : tie.Need-sub-d
+sub-d c = omega (arith, left c .0)
 
-loop-less : tie.Need-loop-less Inv-loop μ-loop
-loop-less c = omega arith
+mul-settled : tie.Need-mul-settled
+mul-settled c = omega (arith, small c)
 
-loop-again : tie.Need-loop-again Inv-loop μ-loop
-loop-again c =
-    let p = c .before .before in
-    let a = p .before .args .a in
-    let s = p .loop .s in
-    let e = p .loop .e in
-    let h = c .before .loop-test .taken in
-    ⊎-elim
-    (λ w. subst (λ (x : ℕ). Within a x (e - e / 2)) (sym (w .1)) (upper-half a s e h (p .loop .inv) (w .0 .taken)))
-    (λ w. subst (λ (x : ℕ). Within a x (e - e / 2)) (sym (w .1)) (lower-half a s e h (p .loop .inv) (w .0 .left)))
-    (c .if1 .came)
+div-settled : tie.Need-div-settled
+div-settled c = search needs
 
-returns : tie.Need-returns Inv-loop μ-loop
+mul-settled-2 : tie.Need-mul-settled-2
+mul-settled-2 c = omega (arith, small c)
+
+rem-settled : tie.Need-rem-settled
+rem-settled c = search needs
+
+settled-requires : tie.Need-settled-requires
+settled-requires c κs = omega (arith, small c, step-short (ended (c .before .before .args .a) (c .nearer .result) (omega arith) (left c)))
+
+returns : tie.Need-returns
 returns c =
-    let s = c .before .loop .s in
-    let h : s + c .before .loop .e ≤ s + 1 = omega arith in
-    (c .before .loop .inv .0, lt-of-lt-of-le (c .before .loop .inv .1) (square-mono h), omega arith)
+    let a = c .before .before .before .args .a in
+    let r = c .settled .result in
+    let h = c .settled .ensures a (2 ^ 13) (ended a (c .before .nearer .result) (omega arith) (left (c .before))) in
+    (h, root-least a r (2 ^ 26) (omega arith) (h .1), root-below a r (2 ^ 27) (h .0) (omega arith))
 
 pub whole-root-spec : {M : Type 1} → statement M
 whole-root-spec =
     tie.close
-    (tie.spec Inv-loop μ-loop loop-holds add-t mul-if1 sub-e loop-less loop-again returns)
+    (tie.spec
+    first-requires
+    nearer-requires
+    mul-d
+    sub-d
+    mul-settled
+    div-settled
+    mul-settled-2
+    rem-settled
+    settled-requires
+    returns)
