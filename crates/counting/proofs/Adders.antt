@@ -2,13 +2,21 @@
 use mathlib.Core.Path.{_≡_, refl, sym, ap, ap₂, _∙_}
 use Prim.Native.Nat.{ℕ, zero, suc, _+_, _*_, _^_, _<_, min, max}
 use native.Mathlib.Omega.{arith}
-use lib.Bits.{bitAnd, bitXor, differ, or-lt, and-lt, xor-lt}
+use native.Mathlib.Nat.{add-assoc}
+use lib.Bits.{bitAnd, bitOr, bitXor, differ, or-lt, and-lt, xor-lt}
 use lib.Count.{ones}
 use Rattle.counting.specs.Block.{bitAt}
 use Rattle.counting.specs.Sample.{sumTo}
-use Rattle.counting.specs.Rows.{carryOf, parityOf}
 use Rattle.counting.proofs.Lanes.{bit-lt, bit-and, bit-or, bit-xor}
-use Rattle.counting.proofs.Counts.{ones-word}
+use Rattle.counting.proofs.Counts.{ones-word, sum-ext, sum-more}
+use Rattle.counting.specs.Tally.{sixteenOf}
+
+-- of three words, lane by lane: the carry and the parity of the three bits
+abbrev carryOf : ℕ → ℕ → ℕ → ℕ
+carryOf a b c = bitOr (bitAnd a b) (bitAnd (bitXor a b) c)
+
+abbrev parityOf : ℕ → ℕ → ℕ → ℕ
+parityOf a b c = bitXor (bitXor a b) c
 
 adder : (x y z : ℕ) → x < 2 → y < 2 → z < 2 → x + y + z ≡ 2 * max (min x y) (min (differ x y) z) + differ (differ x y) z
 adder zero zero zero hx hy hz = refl
@@ -32,10 +40,10 @@ unfolding sumTo
 sum-adder f g h p q e zero = refl
 sum-adder f g h p q e (suc m) = omega (arith, e m, sum-adder f g h p q e m)
 
-pub carry-lt : (k a b c : ℕ) → a < 2 ^ k → b < 2 ^ k → c < 2 ^ k → carryOf a b c < 2 ^ k
+carry-lt : (k a b c : ℕ) → a < 2 ^ k → b < 2 ^ k → c < 2 ^ k → carryOf a b c < 2 ^ k
 carry-lt k a b c ha hb hc = or-lt k (bitAnd a b) (bitAnd (bitXor a b) c) (and-lt k a b ha hb) (and-lt k (bitXor a b) c (xor-lt k a b ha hb) hc)
 
-pub parity-lt : (k a b c : ℕ) → a < 2 ^ k → b < 2 ^ k → c < 2 ^ k → parityOf a b c < 2 ^ k
+parity-lt : (k a b c : ℕ) → a < 2 ^ k → b < 2 ^ k → c < 2 ^ k → parityOf a b c < 2 ^ k
 parity-lt k a b c ha hb hc = xor-lt k (bitXor a b) c (xor-lt k a b ha hb) hc
 
 lane-adder : (a b c l : ℕ) → bitAt a l + bitAt b l + bitAt c l ≡ 2 * bitAt (carryOf a b c) l + bitAt (parityOf a b c) l
@@ -54,10 +62,13 @@ ones-adder k a b c ha hb hc =
     rw (ones-word a k ha, ones-word b k hb, ones-word c k hc, ones-word (carryOf a b c) k (carry-lt k a b c ha hb hc), ones-word (parityOf a b c) k (parity-lt k a b c ha hb hc))
     (sum-adder (bitAt a) (bitAt b) (bitAt c) (bitAt (carryOf a b c)) (bitAt (parityOf a b c)) (lane-adder a b c) k)
 
-pub ones-adds : {a b c p x : ℕ} → a < 2 ^ 64 → b < 2 ^ 64 → c < 2 ^ 64 → p ≡ parityOf a b c → x ≡ carryOf a b c → ones a + ones b + ones c ≡ 2 * ones x + ones p
-ones-adds {a} {b} {c} ha hb hc ep ex = ones-adder 64 a b c ha hb hc ∙ ap₂ (λ (u v : ℕ). 2 * ones u + ones v) (sym ex) (sym ep)
-
--- 64 words as 8 columns of 8
-pub columns : (f : ℕ → ℕ) → sumTo (λ t. f t + f (t + 8) + f (t + 16) + f (t + 24) + f (t + 32) + f (t + 40) + f (t + 48) + f (t + 56)) 8 ≡ sumTo f 64
+-- 64 numbers as 4 columns of 16
+columns-at-0 : (f : ℕ → ℕ) → sumTo (sixteenOf f) 4 ≡ sumTo f 64
 unfolding sumTo
-columns f = omega arith
+columns-at-0 f = omega arith
+
+-- and from one on
+pub columns : (f : ℕ → ℕ) (from : ℕ) → sumTo f (from + 64) ≡ sumTo f from + sumTo (λ t. sixteenOf f (from + t)) 4
+columns f from =
+    sum-more f from 64
+    ∙ ap (λ (x : ℕ). sumTo f from + x) (sym (sum-ext (λ t. sixteenOf f (from + t)) (sixteenOf (λ i. f (from + i))) 4 (λ t h. simp add-assoc) ∙ columns-at-0 (λ i. f (from + i))))

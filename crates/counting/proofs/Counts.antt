@@ -12,7 +12,7 @@ use lib.Count.{ones, ones-cat}
 use lib.Dec.{eqb, ltb, lit<}
 use lib.ListN.{length, getD, drop, length-append, length-drop, List·getD-append}
 use lib.Pow.{pow-pos, pow-mono, mod-pow-add, high, low}
-use lib.Seq.{getD-append-seam, drop-cons}
+use lib.Seq.{getD-append-seam, drop-cons, ext-getD}
 use borrow.Author.Tests.{eq-eqb, ne-eqb, lt-ltb, le-ltb}
 use Rattle.counting.specs.Block.{bitAt, binOf}
 use Rattle.counting.specs.Sample.{same, countIn, listOf, countsOf, sumTo, total, Below, AgreeBelow, Bits, SameCounts, CountsAddUp}
@@ -25,6 +25,13 @@ same-eq a b e = ap (λ (t : Bool). cond t 1 0) (eq-eqb a b e)
 
 pub same-ne : (a b : ℕ) → (a ≡ b → ⊥) → same a b ≡ 0
 same-ne a b h = ap (λ (t : Bool). cond t 1 0) (ne-eqb a b h)
+
+pub same-le : (a b : ℕ) → same a b ≤ 1
+same-le a b = go (eqb a b)
+  where
+    go : (t : Bool) → cond t 1 0 ≤ 1
+    go true = omega arith
+    go false = omega arith
 
 -- two numbers of one digit more are equal where both parts are
 pub same-step : (i x y a c : ℕ) → a < 2 ^ i → c < 2 ^ i → same (x * 2 ^ i + a) (y * 2 ^ i + c) ≡ min (same a c) (same x y)
@@ -80,6 +87,11 @@ unfolding sumTo
 sum-ext f g zero h = refl
 sum-ext f g (suc m) h = ap₂ _+_ (sum-ext f g m (λ l p. h l (omega arith))) (h m (omega arith))
 
+pub sum-more : (f : ℕ → ℕ) (base m : ℕ) → sumTo f (base + m) ≡ sumTo f base + sumTo (λ l. f (base + l)) m
+unfolding sumTo
+sum-more f base zero = rw (add-zero, add-zero)
+sum-more f base (suc m) = rw add-suc (omega (arith, sum-more f base m))
+
 sum-add : (f g : ℕ → ℕ) (m : ℕ) → sumTo (λ l. f l + g l) m ≡ sumTo f m + sumTo g m
 unfolding sumTo
 sum-add f g zero = refl
@@ -122,7 +134,7 @@ ones-bit (suc zero) h = refl
 ones-bit (suc (suc x)) h = absurd (omega arith)
 
 -- the set bits among the first m lanes of a word
-ones-lanes : (w m : ℕ) → ones (w % 2 ^ m) ≡ sumTo (bitAt w) m
+pub ones-lanes : (w m : ℕ) → ones (w % 2 ^ m) ≡ sumTo (bitAt w) m
 unfolding sumTo ones
 ones-lanes w zero = let e : w % 1 ≡ 0 = omega arith in ap ones e
 ones-lanes w (suc m) =
@@ -134,7 +146,7 @@ ones-word w m h = ap ones (sym (mod-eq-of-lt h)) ∙ ones-lanes w m
 
 -- ---- a count, some blocks at a time
 
-count-more : (bit : ℕ → ℕ → ℕ) (base m : ℕ) (bits : List ℕ) (v : ℕ)
+pub count-more : (bit : ℕ → ℕ → ℕ) (base m : ℕ) (bits : List ℕ) (v : ℕ)
     → countIn bit (base + m) bits v ≡ countIn bit base bits v + sumTo (λ l. same (binOf (bit (base + l)) bits) v) m
 unfolding sumTo countIn
 count-more bit base zero bits v = ap (λ (k : ℕ). countIn bit k bits v) (add-zero base) ∙ sym (add-zero (countIn bit base bits v))
@@ -142,26 +154,11 @@ count-more bit base (suc m) bits v =
     ap (λ (k : ℕ). countIn bit k bits v) (add-suc base m)
     ∙ omega (arith, count-more bit base m bits v)
 
--- a word whose first m bits say which of the next m blocks are in the bin
-pub count-by-word : (bit : ℕ → ℕ → ℕ) (base m w : ℕ) (bits : List ℕ) (v : ℕ)
-    → ((l : ℕ) → l < m → bitAt w l ≡ same (binOf (bit (base + l)) bits) v)
-    → countIn bit (base + m) bits v ≡ countIn bit base bits v + ones (w % 2 ^ m)
-count-by-word bit base m w bits v h =
-    count-more bit base m bits v
-    ∙ ap (λ (x : ℕ). countIn bit base bits v + x) (sym (ones-lanes w m ∙ sum-ext (bitAt w) (λ l. same (binOf (bit (base + l)) bits) v) m h))
-
 -- no bin has more blocks than there are
 pub count-le : (bit : ℕ → ℕ → ℕ) (n : ℕ) (bits : List ℕ) (v : ℕ) → countIn bit n bits v ≤ n
 unfolding countIn
 count-le bit zero bits v = zero-le
 count-le bit (suc n) bits v = omega (arith, count-le bit n bits v, same-le (binOf (bit n) bits) v)
-  where
-    same-le : (a b : ℕ) → same a b ≤ 1
-    same-le a b = go (eqb a b)
-      where
-        go : (t : Bool) → cond t 1 0 ≤ 1
-        go true = omega arith
-        go false = omega arith
 
 -- ---- lists of counts
 
@@ -187,6 +184,14 @@ getD-list (suc m) f v h = by-last (ℕ-discrete v m) (getD-list m f v)
         let below : v < m = omega arith in
         let inside : v < length (listOf m f) = rw length-list below in
         List·getD-append (listOf m f) (f m ∷ []) 0 v inside ∙ before below
+
+-- bins that hold every count
+pub counts-are : (bit : ℕ → ℕ → ℕ) (n : ℕ) (bits bins : List ℕ) → length bins ≡ 2 ^ length bits
+    → ((v : ℕ) → v < length bins → getD bins v 0 ≡ countIn bit n bits v) → bins ≡ countsOf bit n bits
+unfolding countsOf
+counts-are bit n bits bins size held =
+    ext-getD 0 bins (listOf (2 ^ length bits) (countIn bit n bits)) (size ∙ sym (length-list (2 ^ length bits) (countIn bit n bits)))
+    (λ v h. held v h ∙ sym (getD-list (2 ^ length bits) (countIn bit n bits) v (omega arith)))
 
 pub total-append : (s t : List ℕ) → total (s ++ t) ≡ total s + total t
 unfolding total

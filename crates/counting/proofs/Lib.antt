@@ -5,3 +5,5 @@ pub mod Recorded
 pub mod Counts
 pub mod Marks
 pub mod Adders
+pub mod Tallying
+pub mod Halves

@@ -1,23 +1,23 @@
--- Words that mark the blocks of a bin: a row, flipped where v's bit is 0, is ANDed in for each bit, and the marks are counted.
+-- Marks of blocks, a lane for each: a row, flipped or not, is ANDed in, and marks that are in a bin are counted.
 use mathlib.Core.Path.{_≡_, refl, sym, ap, ap₂, _∙_}
-use mathlib.Core.List.{List}
+use mathlib.Core.List.{List, [], _∷_, _++_}
 use Prim.Native.Nat.{ℕ, zero, suc, _+_, _-_, _*_, _/_, _%_, _^_, _≤_, _<_, min}
 use native.Mathlib.Omega.{arith}
-use native.Mathlib.Nat.{mod-lt, mod-eq-of-lt, one-mul, le-refl, add-assoc, add-zero}
+use native.Mathlib.Nat.{one-mul, add-assoc, add-zero, pow-suc}
 use native.Mathlib.Numerals.{add-one}
 use lib.Bits.{bitAnd, bitXor, differ}
-use lib.Count.{ones}
 use lib.Dec.{lit<}
-use lib.ListN.{length, getD, take, drop, set, length-take, length-drop}
+use lib.ListN.{length, getD, take, drop, set, length-append}
 use lib.Pow.{pow-pos, shl-exact}
-use lib.Seq.{take-suc, take-length, getD-take, getD-drop, getD-set-same, getD-set-other}
+use lib.Seq.{take-suc, getD-take, getD-drop, getD-set-same, getD-set-other}
 use borrow.Author.Count.{below-more}
 use Rattle.counting.specs.Block.{bitAt, binOf}
-use Rattle.counting.specs.Sample.{same, countIn, sumTo}
+use Rattle.counting.specs.Sample.{same, countIn, sumTo, allSet}
+use Rattle.counting.specs.Tally.{laneOf, wordAt, wordWith}
 use Rattle.counting.specs.Words.{storedBit}
-use Rattle.counting.specs.Rows.{Marks}
+use Rattle.counting.specs.Rows.{onward, Marks, Extended, Room, markedIn}
 use Rattle.counting.proofs.Lanes.{bit-lt, bit-zero, bit-and, bit-xor, bit-ones}
-use Rattle.counting.proofs.Counts.{same-step, bin-lt, bin-snoc, mod-step, count-by-word}
+use Rattle.counting.proofs.Counts.{same-le, same-step, bin-lt, bin-snoc, sum-ext, count-more, count-le}
 
 -- `1 << m`, as the code has it, at a width of w bits
 pub shifted-one : (w m : ℕ) → m < w → 1 * 2 ^ m % 2 ^ w ≡ 2 ^ m
@@ -44,114 +44,142 @@ differ-same (suc zero) (suc zero) hx hy = refl
 differ-same (suc zero) (suc (suc y)) hx hy = absurd (omega arith)
 differ-same (suc (suc x)) y hx hy = absurd (omega arith)
 
--- a row's bit, flipped where v's bit is 0, says whether the two are the same
-flipped : (w v i l : ℕ) → l < 64 → bitAt (bitXor w ((1 - bitAt v i) * (2 ^ 64 - 1))) l ≡ same (bitAt w l) (bitAt v i)
-flipped w v i l h =
-    bit-xor w ((1 - bitAt v i) * (2 ^ 64 - 1)) l ∙ ap (differ (bitAt w l)) (flip-bit (bitAt v i) l (bit-lt v i) h)
-    ∙ differ-same (bitAt w l) (bitAt v i) (bit-lt w l) (bit-lt v i)
+-- a row's bit, flipped where y is 0, says whether it is y
+flipped : (w y l : ℕ) → y < 2 → l < 64 → bitAt (bitXor w ((1 - y) * (2 ^ 64 - 1))) l ≡ same (bitAt w l) y
+flipped w y l hy h =
+    bit-xor w ((1 - y) * (2 ^ 64 - 1)) l ∙ ap (differ (bitAt w l)) (flip-bit y l hy h)
+    ∙ differ-same (bitAt w l) y (bit-lt w l) hy
 
--- ---- the blocks marked so far
+same-one : (x : ℕ) → x < 2 → same x 1 ≡ x
+same-one zero h = refl
+same-one (suc zero) h = refl
+same-one (suc (suc x)) h = absurd (omega arith)
 
-module _ (words : List ℕ) (S : ℕ) (bits : List ℕ) (v start : ℕ) where
-  -- with no bit looked at, all are marked
-  pub marks-none : (acc : List ℕ) (t : ℕ) → getD acc t 0 ≡ 2 ^ 64 - 1 → Marks words S bits v 0 start acc t
-  unfolding binOf
-  marks-none acc t e l h = let z : v % 1 ≡ 0 = omega arith in rw (e, z) (bit-ones 64 l h)
+-- ---- the lanes of a row
 
-  -- bit b of the block at lane l of word t
-  lane-at : (t l b : ℕ) → l < 64 → storedBit S words (64 * (start + t) + l) b ≡ bitAt (getD words (b * S + (start + t)) 0) l
-  unfolding storedBit
-  lane-at t l b h =
-      let q : (64 * (start + t) + l) / 64 ≡ start + t = omega arith in
-      let r : (64 * (start + t) + l) % 64 ≡ l = omega arith in
+-- what `&words[at..at + m]` lends
+abbrev pub partAt : List ℕ → ℕ → ℕ → List ℕ
+partAt words at m = take (at + m - at) (drop at words)
+
+module _ (words : List ℕ) (S start b at m : ℕ) (here : at ≡ b * S + start) where
+  -- as far as the chunk goes the row's lanes are the stored bits
+  row-lane : (e : ℕ) → e / 64 < m → laneOf (wordAt (partAt words at m)) e ≡ storedBit S words (64 * start + e) b
+  unfolding storedBit laneOf
+  row-lane e h =
+      let q : (64 * start + e) / 64 ≡ start + e / 64 = omega arith in
+      let r : (64 * start + e) % 64 ≡ e % 64 = omega arith in
+      let t : e / 64 < at + m - at = omega arith in
       rw (q, r)
+      (ap (λ (x : ℕ). bitAt x (e % 64))
+      (getD-take (at + m - at) (drop at words) (e / 64) 0 t ∙ getD-drop at words (e / 64) 0
+      ∙ ap (λ (k : ℕ). getD words (k + e / 64) 0) here ∙ ap (λ (k : ℕ). getD words k 0) (add-assoc (b * S) start (e / 64))))
 
-  -- one more bit: a word y that says where the row'S bit is v'S is ANDed in
-  marks-and : (i : ℕ) (acc acc′ : List ℕ) (t y : ℕ) → i < length bits
-      → ((l : ℕ) → l < 64 → bitAt y l ≡ same (bitAt (getD words (getD bits i 0 * S + (start + t)) 0) l) (bitAt v i))
-      → getD acc′ t 0 ≡ bitAnd (getD acc t 0) y
-      → Marks words S bits v i start acc t → Marks words S bits v (i + 1) start acc′ t
-  marks-and i acc acc′ t y hi says e old l h =
-      let f = storedBit S words (64 * (start + t) + l) in
-      let b = getD bits i 0 in
-      let w = getD words (b * S + (start + t)) 0 in
-      let n : length (take i bits) ≡ i = simp length-take (omega arith) in
-      let lhs : bitAt (getD acc′ t 0) l ≡ min (same (binOf f (take i bits)) (v % 2 ^ i)) (same (bitAt w l) (bitAt v i)) =
-      ap (λ (x : ℕ). bitAt x l) e ∙ bit-and (getD acc t 0) y l ∙ ap₂ min (old l h) (says l h) in
-      let bin : binOf f (take (suc i) bits) ≡ f b * 2 ^ i + binOf f (take i bits) =
-      ap (binOf f) (take-suc bits i 0 hi) ∙ bin-snoc f (take i bits) b ∙ ap (λ (x : ℕ). f b * 2 ^ x + binOf f (take i bits)) n in
-      let small : binOf f (take i bits) < 2 ^ i = rw n at (bin-lt f (stored-lt S words (64 * (start + t) + l)) (take i bits)) in
-      rw add-one
-      (lhs ∙ ap (λ (x : ℕ). min (same (binOf f (take i bits)) (v % 2 ^ i)) (same x (bitAt v i))) (sym (lane-at t l b h))
-      ∙ sym (same-step i (f b) (bitAt v i) (binOf f (take i bits)) (v % 2 ^ i) small (mod-lt v (pow-pos i)))
-      ∙ ap₂ same (sym bin) (sym (mod-step v i)))
+  -- the row ANDed in, flipped where y is 0
+  pub with-row : (acc : List ℕ) (flip y e : ℕ) → e / 64 < m → y < 2 → flip ≡ (1 - y) * (2 ^ 64 - 1)
+      → laneOf (wordWith acc (partAt words at m) flip) e ≡ min (laneOf (wordAt acc) e) (same (storedBit S words (64 * start + e) b) y)
+  unfolding laneOf wordWith
+  with-row acc flip y e h hy ef =
+      let l = e % 64 in
+      let x = getD acc (e / 64) 0 in
+      let w = getD (partAt words at m) (e / 64) 0 in
+      let hl : l < 64 = omega arith in
+      ap (λ (f : ℕ). bitAt (bitAnd x (bitXor w f)) l) ef ∙ bit-and x (bitXor w ((1 - y) * (2 ^ 64 - 1))) l
+      ∙ ap (min (bitAt x l)) (flipped w y l hy hl ∙ ap (λ (z : ℕ). same z y) (row-lane e h))
 
-  -- one more bit, whose row was ANDed in by its part of the words
-  pub marks-row : (i : ℕ) (acc acc′ : List ℕ) (at m flip : ℕ) → i < length bits → at ≡ getD bits i 0 * S + start → at + m ≤ length words
-      → flip ≡ (1 - bitAt v i) * (2 ^ 64 - 1)
-      → ((t : ℕ) → t < length (take (at + m - at) (drop at words)) → getD acc′ t 0 ≡ bitAnd (getD acc t 0) (bitXor (getD (take (at + m - at) (drop at words)) t 0) flip))
-      → (t : ℕ) → t < m → Marks words S bits v i start acc t → Marks words S bits v (i + 1) start acc′ t
-  marks-row i acc acc′ at m flip hi ea room ef step t ht old =
-      let g : t < length (take (at + m - at) (drop at words)) = simp (length-take, length-drop) (omega arith) in
-      let x : getD (take (at + m - at) (drop at words)) t 0 ≡ getD words (getD bits i 0 * S + (start + t)) 0 =
-      getD-take (at + m - at) (drop at words) t 0 (omega arith) ∙ getD-drop at words t 0 ∙ ap (λ (k : ℕ). getD words (k + t) 0) ea
-      ∙ ap (λ (k : ℕ). getD words k 0) (add-assoc (getD bits i 0 * S) start t) in
-      let w = getD words (getD bits i 0 * S + (start + t)) 0 in
-      marks-and i acc acc′ t (bitXor w ((1 - bitAt v i) * (2 ^ 64 - 1))) hi (flipped w v i)
-      (step t g ∙ ap₂ (λ (a b : ℕ). bitAnd (getD acc t 0) (bitXor a b)) x ef) old
+  -- and as it is
+  pub and-lane : (acc acc′ : List ℕ) (e : ℕ) → e / 64 < m
+      → getD acc′ (e / 64) 0 ≡ bitAnd (getD acc (e / 64) 0) (getD (partAt words at m) (e / 64) 0)
+      → laneOf (wordAt acc′) e ≡ min (laneOf (wordAt acc) e) (same (storedBit S words (64 * start + e) b) 1)
+  unfolding laneOf
+  and-lane acc acc′ e h step =
+      let l = e % 64 in
+      let x = getD acc (e / 64) 0 in
+      let w = getD (partAt words at m) (e / 64) 0 in
+      ap (λ (z : ℕ). bitAt z l) step ∙ bit-and x w l
+      ∙ ap (min (bitAt x l)) (row-lane e h ∙ sym (same-one (storedBit S words (64 * start + e) b) (stored-lt S words (64 * start + e) b)))
 
-  -- the first m blocks of word t
-  count-word : (k : ℕ) (acc : List ℕ) (t m : ℕ) → v < 2 ^ k → m ≤ 64 → Marks words S bits v k start acc t
-      → countIn (storedBit S words) (64 * (start + t) + m) (take k bits) v
-      ≡ countIn (storedBit S words) (64 * (start + t)) (take k bits) v + ones (getD acc t 0 % 2 ^ m)
-  count-word k acc t m hv hm marked =
-      count-by-word (storedBit S words) (64 * (start + t)) m (getD acc t 0) (take k bits) v
-      (λ l p. marked l (omega arith) ∙ ap (same (binOf (storedBit S words (64 * (start + t) + l)) (take k bits))) (mod-eq-of-lt hv))
+-- ---- blocks that have all bits set
 
-  -- the blocks of the first m words
-  count-words : (k : ℕ) (acc : List ℕ) (m : ℕ) → v < 2 ^ k → ((t : ℕ) → t < m → Marks words S bits v k start acc t)
-      → countIn (storedBit S words) (64 * start + 64 * m) (take k bits) v
-      ≡ countIn (storedBit S words) (64 * start) (take k bits) v + sumTo (λ t. ones (getD acc t 0 % 2 ^ 64)) m
-  unfolding sumTo
-  count-words k acc zero hv marked = let e : 64 * start + 0 ≡ 64 * start = omega arith in rw (e, add-zero)
-  count-words k acc (suc m) hv marked =
-      let e : 64 * start + 64 * suc m ≡ 64 * (start + m) + 64 = omega arith in
-      let f : 64 * (start + m) ≡ 64 * start + 64 * m = omega arith in
-      rw e
-      (omega (
-        arith,
-        count-word k acc m 64 hv (le-refl 64) (marked m (omega arith)),
-        ap (λ (x : ℕ). countIn (storedBit S words) x (take k bits) v) f,
-        count-words k acc m hv (λ t h. marked t (omega arith)),
-      ))
+-- one bit more
+all-more : (f : ℕ → ℕ) → ((b : ℕ) → f b < 2) → (bs : List ℕ) (b : ℕ)
+    → min (same (binOf f bs) (2 ^ length bs - 1)) (same (f b) 1) ≡ same (binOf f (bs ++ (b ∷ []))) (2 ^ length (bs ++ (b ∷ [])) - 1)
+all-more f low bs b =
+    let k = length bs in
+    let below : 2 ^ k - 1 < 2 ^ k = omega (arith, pow-pos k) in
+    let top : 2 ^ length (bs ++ (b ∷ [])) - 1 ≡ 1 * 2 ^ k + (2 ^ k - 1) =
+    ap (λ (j : ℕ). 2 ^ j - 1) (length-append bs (b ∷ []) ∙ add-one k) ∙ rw pow-suc (omega (arith, pow-pos k)) in
+    sym (same-step k (f b) 1 (binOf f bs) (2 ^ k - 1) (bin-lt f low bs) below)
+    ∙ sym (ap₂ same (bin-snoc f bs b) top)
 
-  -- the first n blocks: whole words, and the n % 64 first lanes of one more
-  pub count-part : (acc : List ℕ) (n r q : ℕ) → v < 2 ^ length bits → ((t : ℕ) → t < (n + 63) / 64 → Marks words S bits v (length bits) start acc t)
-      → 0 < n % 64 → r ≡ sumTo (λ t. ones (getD acc t 0 % 2 ^ 64)) (n / 64) → q ≡ ones (getD acc (n / 64) 0 % 2 ^ (n % 64))
-      → countIn (storedBit S words) (64 * start + n) bits v ≡ countIn (storedBit S words) (64 * start) bits v + (r + q)
-  count-part acc n r q hv marked h er eq =
-      let e : 64 * start + n ≡ 64 * (start + n / 64) + n % 64 = omega arith in
-      let f : 64 * (start + n / 64) ≡ 64 * start + 64 * (n / 64) = omega arith in
-      rw (e, er, eq)
-      (rw take-length at
-      (let g : countIn (storedBit S words) (64 * (start + n / 64) + n % 64) (take (length bits) bits) v
-      ≡ countIn (storedBit S words) (64 * start) (take (length bits) bits) v + (sumTo (λ t. ones (getD acc t 0 % 2 ^ 64)) (n / 64) + ones (getD acc (n / 64) 0 % 2 ^ (n % 64))) =
-      omega (
-        arith,
-        count-word (length bits) acc (n / 64) (n % 64) hv (omega arith) (marked (n / 64) (omega arith)),
-        ap (λ (x : ℕ). countIn (storedBit S words) x (take (length bits) bits) v) f,
-        count-words (length bits) acc (n / 64) hv (λ t h. marked t (omega arith)),
-      ) in
-      g))
+pub marks-none : (acc : List ℕ) (bit : ℕ → ℕ → ℕ) (n : ℕ) → ((e : ℕ) → e < n → laneOf (wordAt acc) e ≡ 1) → Marks acc bit [] n
+unfolding binOf
+marks-none acc bit n ones e h = ones e h
 
-  pub count-whole : (acc : List ℕ) (n r : ℕ) → v < 2 ^ length bits → ((t : ℕ) → t < (n + 63) / 64 → Marks words S bits v (length bits) start acc t)
-      → n % 64 ≤ 0 → r ≡ sumTo (λ t. ones (getD acc t 0 % 2 ^ 64)) (n / 64)
-      → countIn (storedBit S words) (64 * start + n) bits v ≡ countIn (storedBit S words) (64 * start) bits v + r
-  count-whole acc n r hv marked h er =
-      let e : n ≡ 64 * (n / 64) = omega arith in
-      ap (λ (x : ℕ). countIn (storedBit S words) (64 * start + x) bits v) e
-      ∙ (rw take-length at (count-words (length bits) acc (n / 64) hv (λ t l. marked t (omega arith))))
-      ∙ ap (λ (x : ℕ). countIn (storedBit S words) (64 * start) bits v + x) (sym er)
+-- one bit more, whose row was ANDed in
+pub marks-more : (acc acc′ : List ℕ) (bit : ℕ → ℕ → ℕ) → ((e b : ℕ) → bit e b < 2) → (bits : List ℕ) (i n : ℕ) → i < length bits
+    → ((e : ℕ) → e < n → laneOf (wordAt acc′) e ≡ min (laneOf (wordAt acc) e) (same (bit e (getD bits i 0)) 1))
+    → Marks acc bit (take i bits) n → Marks acc′ bit (take (i + 1) bits) n
+marks-more acc acc′ bit low bits i n hi step old e h =
+    step e h ∙ ap (λ (x : ℕ). min x (same (bit e (getD bits i 0)) 1)) (old e h)
+    ∙ all-more (bit e) (low e) (take i bits) (getD bits i 0)
+    ∙ ap (λ (l : List ℕ). same (binOf (bit e) l) (2 ^ length l - 1)) (sym (ap (λ (j : ℕ). take j bits) (add-one i) ∙ take-suc bits i 0 hi))
+
+-- the blocks from base on that have one bit more
+pub extended-more : (acc : List ℕ) (bit : ℕ → ℕ → ℕ) → ((e b : ℕ) → bit e b < 2) → (base n : ℕ) (bits : List ℕ) (b : ℕ) → Marks acc (onward base bit) bits n
+    → allSet bit (base + n) (bits ++ (b ∷ [])) ≡ allSet bit base (bits ++ (b ∷ [])) + markedIn (laneOf (wordAt acc)) (onward base bit) (b ∷ []) n 1
+unfolding markedIn binOf
+extended-more acc bit low base n bits b marked =
+    let all = bits ++ (b ∷ []) in
+    let v = 2 ^ length all - 1 in
+    count-more bit base n all v
+    ∙ ap (λ (x : ℕ). countIn bit base all v + x)
+    (sym (sum-ext (λ e. min (laneOf (wordAt acc) e) (same (bit (base + e) b + 0) 1)) (λ e. same (binOf (bit (base + e)) all) v) n
+    (λ e h. ap₂ (λ (x y : ℕ). min x (same y 1)) (marked e h) (add-zero (bit (base + e) b)) ∙ all-more (bit (base + e)) (low (base + e)) bits b)))
+
+-- as many blocks more fit the counts as the sample has
+pub extended-room : (bit : ℕ → ℕ → ℕ) (base n : ℕ) (bits : List ℕ) (next : ℕ) (counts : List ℕ) → base + n ≤ 16777216
+    → Extended bit base bits next counts → Room n counts
+extended-room bit base n bits next counts fits held v h =
+    let all = bits ++ ((next + v) ∷ []) in
+    omega (arith, held v h, count-le bit base all (2 ^ length all - 1))
+
+-- ---- marked blocks in a bin
+
+-- with all marked, they are the bin's
+pub counted-more : (lane : ℕ → ℕ) (bit : ℕ → ℕ → ℕ) (base n : ℕ) (bits : List ℕ) (v : ℕ) → ((e : ℕ) → e < n → lane e ≡ 1)
+    → countIn bit (base + n) bits v ≡ countIn bit base bits v + markedIn lane (onward base bit) bits n v
+unfolding markedIn
+counted-more lane bit base n bits v ones =
+    count-more bit base n bits v
+    ∙ ap (λ (x : ℕ). countIn bit base bits v + x)
+    (sum-ext (λ e. same (binOf (bit (base + e)) bits) v) (λ e. min (lane e) (same (binOf (bit (base + e)) bits) v)) n
+    (λ e h. omega (arith, same-le (binOf (bit (base + e)) bits) v, ones e h)))
+
+pub counted-room : (bit : ℕ → ℕ → ℕ) (base n : ℕ) (bits bins : List ℕ) → base + n ≤ 16777216
+    → ((v : ℕ) → v < length bins → getD bins v 0 ≡ countIn bit base bits v) → Room n bins
+counted-room bit base n bits bins fits held v h = omega (arith, held v h, count-le bit base bits v)
+
+-- the bins of one bit
+pub marked-one : (lane lane′ : ℕ → ℕ) (bit : ℕ → ℕ → ℕ) (b n y : ℕ) → ((e : ℕ) → e < n → lane′ e ≡ min (lane e) (same (bit e b) y))
+    → sumTo lane′ n ≡ markedIn lane bit (b ∷ []) n y
+unfolding markedIn binOf
+marked-one lane lane′ bit b n y step =
+    sum-ext lane′ (λ e. min (lane e) (same (bit e b + 0) y)) n (λ e h. step e h ∙ ap (λ (x : ℕ). min (lane e) (same x y)) (sym (add-zero (bit e b))))
+
+-- the last bit is y where the marks that are left say so
+pub marked-last : (lane lane′ : ℕ → ℕ) (bit : ℕ → ℕ → ℕ) → ((e b : ℕ) → bit e b < 2) → (init : List ℕ) (b n y v : ℕ) → v < 2 ^ length init
+    → ((e : ℕ) → e < n → lane′ e ≡ min (lane e) (same (bit e b) y))
+    → markedIn lane′ bit init n v ≡ markedIn lane bit (init ++ (b ∷ [])) n (y * 2 ^ length init + v)
+unfolding markedIn
+marked-last lane lane′ bit low init b n y v hv step =
+    sum-ext (λ e. min (lane′ e) (same (binOf (bit e) init) v)) (λ e. min (lane e) (same (binOf (bit e) (init ++ (b ∷ []))) (y * 2 ^ length init + v))) n by-bit
+  where
+    by-bit : (e : ℕ) → e < n → min (lane′ e) (same (binOf (bit e) init) v) ≡ min (lane e) (same (binOf (bit e) (init ++ (b ∷ []))) (y * 2 ^ length init + v))
+    by-bit e h =
+        let k = length init in
+        let whole : same (binOf (bit e) (init ++ (b ∷ []))) (y * 2 ^ k + v) ≡ min (same (binOf (bit e) init) v) (same (bit e b) y) =
+        ap (λ (x : ℕ). same x (y * 2 ^ k + v)) (bin-snoc (bit e) init b) ∙ same-step k (bit e b) y (binOf (bit e) init) v (bin-lt (bit e) (low e) init) hv in
+        omega (arith, step e h, whole)
 
 -- ---- a loop that stores f t at each index t of a list in turn
 

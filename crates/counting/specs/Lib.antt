@@ -5,4 +5,5 @@ pub mod Recording
 pub mod Words
 pub mod Sampling
 pub mod Recorded
+pub mod Tally
 pub mod Rows

@@ -1,4 +1,4 @@
--- The plain recording of document 01: it is fed B, the number of lent words and the pieces, and nothing of the sampler or its words.
+-- The plain recording of the rules: it is fed B, the number of lent words and the pieces, and nothing of the sampler or its words.
 use Prim.Native.Nat.{ℕ, _+_, _*_, _/_, min}
 use mathlib.Core.Bool.{cond}
 use mathlib.Core.List.{List, [], _∷_, _++_}

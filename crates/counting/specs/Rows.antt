@@ -1,12 +1,11 @@
 -- Counting from the rows.
 use mathlib.Core.Path.{_≡_}
-use Prim.Native.Nat.{ℕ, _+_, _*_, _%_, _^_, _≤_, _<_}
-use mathlib.Core.List.{List}
-use lib.Bits.{bitAnd, bitOr, bitXor}
-use lib.ListN.{length, getD, take}
-use Rattle.counting.specs.Block.{bitAt, binOf}
-use Rattle.counting.specs.Sample.{same}
-use Rattle.counting.specs.Words.{storedBit}
+use Prim.Native.Nat.{ℕ, _+_, _-_, _*_, _^_, _≤_, _<_, min}
+use mathlib.Core.List.{List, [], _∷_, _++_}
+use lib.ListN.{length, getD}
+use Rattle.counting.specs.Block.{binOf}
+use Rattle.counting.specs.Sample.{same, sumTo, allSet}
+use Rattle.counting.specs.Tally.{laneOf, wordAt}
 
 -- the row of each of the bits lies within the words
 abbrev pub RowsIn : List ℕ → ℕ → List ℕ → Type 0
@@ -16,14 +15,26 @@ RowsIn words S bits = (i : ℕ) → i < length bits → getD bits i 0 * S + S �
 abbrev pub BlocksIn : ℕ → ℕ → Type 0
 BlocksIn S n = (n ≤ 64 * S) × (n ≤ 16777216)
 
--- word t of acc says of the 64 blocks from 64 × (start + t) on which agree with bin v in the first i of the bits
-abbrev pub Marks : List ℕ → ℕ → List ℕ → ℕ → ℕ → ℕ → List ℕ → ℕ → Type 0
-Marks words S bits v i start acc t =
-    (l : ℕ) → l < 64 → bitAt (getD acc t 0) l ≡ same (binOf (storedBit S words (64 * (start + t) + l)) (take i bits)) (v % 2 ^ i)
+-- and so are the n blocks from block 64 × start on, which fit a chunk
+abbrev pub ChunkIn : ℕ → ℕ → ℕ → Type 0
+ChunkIn S start n = (64 * start + n ≤ 64 * S) × (64 * start + n ≤ 16777216) × (n ≤ 32768)
 
--- of three words, lane by lane: the carry and the parity of the three bits
-abbrev pub carryOf : ℕ → ℕ → ℕ → ℕ
-carryOf a b c = bitOr (bitAnd a b) (bitAnd (bitXor a b) c)
+-- the sample from block `base` on
+abbrev pub onward : ℕ → (ℕ → ℕ → ℕ) → ℕ → ℕ → ℕ
+onward base bit e = bit (base + e)
 
-abbrev pub parityOf : ℕ → ℕ → ℕ → ℕ
-parityOf a b c = bitXor (bitXor a b) c
+-- how many of the first n blocks are marked by their lanes and in bin v
+unfoldable pub markedIn : (ℕ → ℕ) → (ℕ → ℕ → ℕ) → List ℕ → ℕ → ℕ → ℕ
+markedIn lane bit bits n v = sumTo (λ e. min (lane e) (same (binOf (bit e) bits) v)) n
+
+-- the lanes of acc say which of the first n blocks have all the bits set
+abbrev pub Marks : List ℕ → (ℕ → ℕ → ℕ) → List ℕ → ℕ → Type 0
+Marks acc bit bits n = (e : ℕ) → e < n → laneOf (wordAt acc) e ≡ same (binOf (bit e) bits) (2 ^ length bits - 1)
+
+-- entry j counts those of the n blocks that have all the bits and bit next + j set
+abbrev pub Extended : (ℕ → ℕ → ℕ) → ℕ → List ℕ → ℕ → List ℕ → Type 0
+Extended bit n bits next counts = (j : ℕ) → j < length counts → getD counts j 0 ≡ allSet bit n (bits ++ ((next + j) ∷ []))
+
+-- n blocks more fit each count
+abbrev pub Room : ℕ → List ℕ → Type 0
+Room n counts = (v : ℕ) → v < length counts → getD counts v 0 + n ≤ 16777216

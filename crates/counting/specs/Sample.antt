@@ -1,6 +1,6 @@
 -- A sample is n blocks; `bit e b` is bit b of its block e. Words, a recording and a raw slice are each a sample.
 use mathlib.Core.Path.{_≡_}
-use Prim.Native.Nat.{ℕ, zero, suc, _+_, _^_, _<_}
+use Prim.Native.Nat.{ℕ, zero, suc, _+_, _-_, _^_, _<_}
 use mathlib.Core.Bool.{cond}
 use mathlib.Core.List.{List, [], _∷_, _++_}
 use lib.Dec.{eqb}
@@ -15,6 +15,10 @@ same a b = cond (eqb a b) 1 0
 unfoldable pub countIn : (ℕ → ℕ → ℕ) → ℕ → List ℕ → ℕ → ℕ
 countIn bit zero bits v = 0
 countIn bit (suc n) bits v = countIn bit n bits v + same (binOf (bit n) bits) v
+
+-- how many of the sample's n blocks have all the bits set
+abbrev pub allSet : (ℕ → ℕ → ℕ) → ℕ → List ℕ → ℕ
+allSet bit n bits = countIn bit n bits (2 ^ length bits - 1)
 
 -- f 0, f 1, .. up to f (m - 1)
 unfoldable pub listOf {ℓ} : {A : Type ℓ} → ℕ → (ℕ → A) → List A

@@ -2,3 +2,4 @@
 pub mod block;
 pub mod rows;
 pub mod sampling;
+mod tally;

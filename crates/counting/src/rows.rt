@@ -1,174 +1,222 @@
-// Counts over the rows: how many of the first n blocks are in a bin. Each bit's row is read in consecutive words, 64 blocks to a word,
-// so that the loops vectorise; lanes from n on are masked off.
+// Counts over the rows, 32,768 blocks at a time: each bit's row has 64 blocks to a word, and the rows are ANDed into 512 words of marks.
 ghost use mathlib.Core.Path.{_≡_};
-ghost use Prim.Native.Nat.{ℕ, _+_, _-_, _*_, _%_, _^_, _≤_, _<_};
-ghost use lib.Bits.{bitAnd, bitXor};
-ghost use lib.Count.{ones};
-ghost use lib.ListN.{length, getD};
-ghost use Rattle.counting.specs.Block.{bitAt};
-ghost use Rattle.counting.specs.Sample.{countIn, sumTo};
+ghost use mathlib.Core.List.{[], _∷_, _++_};
+ghost use Prim.Native.Nat.{ℕ, _+_, _*_, _^_, _≤_, _<_};
+ghost use lib.Bits.{bitAnd};
+ghost use lib.ListN.{length, getD, replicate};
+ghost use Rattle.counting.specs.Sample.{sumTo, allSet, countsOf};
+ghost use Rattle.counting.specs.Tally.{laneOf, wordAt, wordWith};
 ghost use Rattle.counting.specs.Words.{storedBit};
-ghost use Rattle.counting.specs.Rows.{RowsIn, BlocksIn, carryOf, parityOf};
+ghost use Rattle.counting.specs.Rows.{RowsIn, BlocksIn, ChunkIn, onward, Marks, Extended, Room, markedIn};
+use crate::tally::count_with;
 
-// How many of the first n blocks have all the bits set.
-pub fn multi_eval(bits: &[u32], words: &[u64], stride: usize, n: usize) -> u32
-    requires { ⌜ length (now bits) ≤ 20 ⌝ }
+// For each bit from `next` on, as many as counts has entries: how many of the first n blocks have it and all the bits set.
+pub fn multi_eval(
+    bits: &[u32],
+    next: usize,
+    words: &[u64],
+    stride: usize,
+    n: usize,
+    counts: &mut [u32],
+)
+    requires { ⌜ length (now bits) < 20 ⌝ }
     requires { ⌜ RowsIn (now words) stride (now bits) ⌝ }
     requires { ⌜ BlocksIn stride n ⌝ }
-    ensures { λ r. ⌜ r ≡ countIn (storedBit stride (now (words .entry))) n (now (bits .entry)) (2 ^ length (now (bits .entry)) - 1) ⌝ }
+    requires { ⌜ (next + length (now counts) < 4294967296) × ((next + length (now counts)) * stride ≤ length (now words)) ⌝ }
+    ensures { λ _. ⌜ ((j : ℕ) → j < length (now (counts .entry)) → getD (now (counts .exit)) j 0 ≡ allSet (storedBit stride (now (words .entry))) n (now (bits .entry) ++ ((next + j) ∷ []))) ⌝ }
 {
-    let all: u32 = (1 << bits.len() as u32) - 1;
-    multi_eval_neg(bits, words, stride, n, all)
-}
-
-// How many of the first n blocks are in bin v of the bits: bit i of v says whether bits[i] is set.
-pub fn multi_eval_neg(bits: &[u32], words: &[u64], stride: usize, n: usize, v: u32) -> u32
-    requires { ⌜ (length (now bits) ≤ 20) × (v < 2 ^ length (now bits)) ⌝ }
-    requires { ⌜ RowsIn (now words) stride (now bits) ⌝ }
-    requires { ⌜ BlocksIn stride n ⌝ }
-    ensures { λ r. ⌜ r ≡ countIn (storedBit stride (now (words .entry))) n (now (bits .entry)) v ⌝ }
-{
-    let mut count: u32 = 0;
+    clear(counts);
     let mut start: usize = 0;
     let mut left = n;
-    while 4096 <= left {
-        count += count_chunk(bits, words, stride, start, 4096, v);
-        start += 64;
-        left -= 4096;
+    while 32768 <= left {
+        extend(bits, next, words, stride, start, 32768, counts);
+        start += 512;
+        left -= 32768;
     }
-    count + count_chunk(bits, words, stride, start, left, v)
+    extend(bits, next, words, stride, start, left, counts);
 }
 
-// Of the n blocks, at most 4,096, from block 64 × start on: how many are in bin v.
-fn count_chunk(bits: &[u32], words: &[u64], stride: usize, start: usize, n: usize, v: u32) -> u32
-    requires { ⌜ (length (now bits) ≤ 20) × (v < 2 ^ length (now bits)) ⌝ }
+// Counts every bin of the bits: bit i of a bin's number says whether bits[i] is set.
+pub fn multi_eval_neg(bits: &[u32], words: &[u64], stride: usize, n: usize, bins: &mut [u32])
+    requires { ⌜ (1 ≤ length (now bits)) × (length (now bits) ≤ 20) × (length (now bins) ≡ 2 ^ length (now bits)) ⌝ }
     requires { ⌜ RowsIn (now words) stride (now bits) ⌝ }
-    requires { ⌜ (64 * start + n ≤ 64 * stride) × (n ≤ 4096) ⌝ }
-    ensures { λ r. ⌜ countIn (storedBit stride (now (words .entry))) (64 * start + n) (now (bits .entry)) v ≡ countIn (storedBit stride (now (words .entry))) (64 * start) (now (bits .entry)) v + r ⌝ }
-    ensures { λ r. ⌜ r ≤ n ⌝ }
+    requires { ⌜ BlocksIn stride n ⌝ }
+    ensures { λ _. ⌜ now (bins .exit) ≡ countsOf (storedBit stride (now (words .entry))) n (now (bits .entry)) ⌝ }
 {
-    let full = n / 64;
-    let rest = n % 64;
+    clear(bins);
+    let acc = all_marked();
+    let mut start: usize = 0;
+    let mut left = n;
+    while 32768 <= left {
+        add_bins(&acc, words, stride, start, 32768, bits, bins);
+        start += 512;
+        left -= 32768;
+    }
+    add_bins(&acc, words, stride, start, left, bits, bins);
+}
+
+fn clear(counts: &mut [u32])
+    ensures { λ _. ⌜ now (counts .exit) ≡ replicate (length (now (counts .entry))) 0 ⌝ }
+{
+    let mut i: usize = 0;
+    while i < counts.len() {
+        counts[i] = 0;
+        i += 1;
+    }
+}
+
+// Marks for a chunk, every block marked.
+fn all_marked() -> [u64; 512]
+    ensures { λ r. ⌜ 512 ≡ length r ⌝ }
+    ensures { λ r. ⌜ ((e : ℕ) → e < 32768 → laneOf (wordAt r) e ≡ 1) ⌝ }
+{
+    [u64::MAX; 512]
+}
+
+// Goes on with the n blocks from block 64 × start on. The rows of the bits are ANDed once for all counts.
+fn extend(
+    bits: &[u32],
+    next: usize,
+    words: &[u64],
+    stride: usize,
+    start: usize,
+    n: usize,
+    counts: &mut [u32],
+)
+    requires { ⌜ RowsIn (now words) stride (now bits) ⌝ }
+    requires { ⌜ ChunkIn stride start n ⌝ }
+    requires { ⌜ (next + length (now counts) < 4294967296) × ((next + length (now counts)) * stride ≤ length (now words)) ⌝ }
+    requires { ⌜ Extended (storedBit stride (now words)) (64 * start) (now bits) next (now counts) ⌝ }
+    ensures { λ _. ⌜ Extended (storedBit stride (now (words .entry))) (64 * start + n) (now (bits .entry)) next (now (counts .exit)) ⌝ }
+{
+    let mut acc = all_marked();
+    and_rows(&mut acc, bits, words, stride, start, n);
+    add_each(&acc, next, words, stride, start, n, counts);
+}
+
+// Leaves the marks of the blocks that have all the bits set.
+fn and_rows(acc: &mut [u64], bits: &[u32], words: &[u64], stride: usize, start: usize, n: usize)
+    requires { ⌜ RowsIn (now words) stride (now bits) ⌝ }
+    requires { ⌜ ChunkIn stride start n × (512 ≤ length (now acc)) ⌝ }
+    requires { ⌜ Marks (now acc) (onward (64 * start) (storedBit stride (now words))) [] n ⌝ }
+    ensures { λ _. ⌜ Marks (now (acc .exit)) (onward (64 * start) (storedBit stride (now (words .entry)))) (now (bits .entry)) n ⌝ }
+{
     let m = (n + 63) / 64;
-    let mut acc = [u64::MAX; 64];
     let mut i: usize = 0;
     while i < bits.len() {
         let at = bits[i] as usize * stride + start;
         let end = at + m;
-        let flip = flip_of(v, i as u32);
-        and_row(&mut acc, &words[at..end], flip);
+        and_row(acc, &words[at..end]);
         i += 1;
     }
-    let sum = total(&acc, full);
-    if rest > 0 {
-        sum + ones_below(acc[full], rest as u32)
-    } else {
-        sum
-    }
 }
 
-// What a row is flipped by: nothing where bit i of v is 1, every bit where it is 0.
-fn flip_of(v: u32, i: u32) -> u64
-    requires { ⌜ i < 32 ⌝ }
-    ensures { λ r. ⌜ r ≡ (1 - bitAt v i) * (2 ^ 64 - 1) ⌝ }
-{
-    if (v >> i) % 2 == 1 { 0 } else { u64::MAX }
-}
-
-// ANDs a row, flipped, into the first words of acc.
-fn and_row(acc: &mut [u64], row: &[u64], flip: u64)
+// ANDs a row into the first words of acc.
+fn and_row(acc: &mut [u64], row: &[u64])
     requires { ⌜ length (now row) ≤ length (now acc) ⌝ }
-    ensures { λ _. ⌜ ((t : ℕ) → t < length (now (row .entry)) → getD (now (acc .exit)) t 0 ≡ bitAnd (getD (now (acc .entry)) t 0) (bitXor (getD (now (row .entry)) t 0) flip)) ⌝ }
+    ensures { λ _. ⌜ ((t : ℕ) → t < length (now (row .entry)) → getD (now (acc .exit)) t 0 ≡ bitAnd (getD (now (acc .entry)) t 0) (getD (now (row .entry)) t 0)) ⌝ }
 {
     let mut t: usize = 0;
     while t < row.len() {
-        acc[t] = acc[t] & (row[t] ^ flip);
+        acc[t] = acc[t] & row[t];
         t += 1;
     }
 }
 
-// The set bits of the first m words: a whole chunk by eights, any other word by word.
-fn total(acc: &[u64], m: usize) -> u32
-    requires { ⌜ (m ≤ length (now acc)) × (m ≤ 64) ⌝ }
-    ensures { λ r. ⌜ (r ≡ sumTo (λ t. ones (getD (now (acc .entry)) t 0 % 2 ^ 64)) m) × (r ≤ 64 * m) ⌝ }
+// Adds to each count the marked blocks that have its bit set.
+fn add_each(
+    acc: &[u64],
+    next: usize,
+    words: &[u64],
+    stride: usize,
+    start: usize,
+    n: usize,
+    counts: &mut [u32],
+)
+    requires { ⌜ ChunkIn stride start n × (512 ≤ length (now acc)) ⌝ }
+    requires { ⌜ (next + length (now counts) < 4294967296) × ((next + length (now counts)) * stride ≤ length (now words)) ⌝ }
+    requires { ⌜ Room n (now counts) ⌝ }
+    ensures { λ _. ⌜ ((j : ℕ) → j < length (now (counts .entry)) → getD (now (counts .exit)) j 0 ≡ getD (now (counts .entry)) j 0 + markedIn (laneOf (wordAt (now (acc .entry)))) (onward (64 * start) (storedBit stride (now (words .entry)))) ((next + j) ∷ []) n 1) ⌝ }
 {
-    if m == 64 {
-        total_64(acc)
-    } else {
-        total_each(acc, m)
+    let m = (n + 63) / 64;
+    let mut j: usize = 0;
+    while j < counts.len() {
+        let at = (next + j) * stride + start;
+        let end = at + m;
+        let more = count_with(acc, &words[at..end], 0, n);
+        counts[j] = counts[j] + more;
+        j += 1;
     }
 }
 
-// Each word counted by itself.
-fn total_each(acc: &[u64], m: usize) -> u32
-    requires { ⌜ (m ≤ length (now acc)) × (m ≤ 64) ⌝ }
-    ensures { λ r. ⌜ (r ≡ sumTo (λ t. ones (getD (now (acc .entry)) t 0 % 2 ^ 64)) m) × (r ≤ 64 * m) ⌝ }
+// Adds to each bin of the bits the marked blocks in it. By the last bit, so that a bin with and one without it are half the bins
+// apart: the marks of either half are ANDed once for all its bins, and every bin is counted from rows.
+fn add_bins(
+    acc: &[u64],
+    words: &[u64],
+    stride: usize,
+    start: usize,
+    n: usize,
+    bits: &[u32],
+    bins: &mut [u32],
+)
+    requires { ⌜ (1 ≤ length (now bits)) × (length (now bits) ≤ 20) × (length (now bins) ≡ 2 ^ length (now bits)) ⌝ }
+    requires { ⌜ RowsIn (now words) stride (now bits) ⌝ }
+    requires { ⌜ ChunkIn stride start n × (512 ≤ length (now acc)) ⌝ }
+    requires { ⌜ Room n (now bins) ⌝ }
+    ensures { λ _. ⌜ ((v : ℕ) → v < length (now (bins .entry)) → getD (now (bins .exit)) v 0 ≡ getD (now (bins .entry)) v 0 + markedIn (laneOf (wordAt (now (acc .entry)))) (onward (64 * start) (storedBit stride (now (words .entry)))) (now (bits .entry)) n v) ⌝ }
 {
-    let mut sum: u32 = 0;
+    let last = bits.len() - 1;
+    let at = bits[last] as usize * stride + start;
+    let end = at + (n + 63) / 64;
+    if last == 0 {
+        add_two(acc, &words[at..end], n, bins);
+        return;
+    }
+    let half = bins.len() / 2;
+    let mut part = all_marked();
+    and_to(&mut part, acc, &words[at..end], 0);
+    add_bins(
+        &part,
+        words,
+        stride,
+        start,
+        n,
+        &bits[..last],
+        &mut bins[half..],
+    );
+    and_to(&mut part, acc, &words[at..end], u64::MAX);
+    add_bins(
+        &part,
+        words,
+        stride,
+        start,
+        n,
+        &bits[..last],
+        &mut bins[..half],
+    );
+}
+
+// The two bins of one bit.
+fn add_two(acc: &[u64], row: &[u64], n: usize, bins: &mut [u32])
+    requires { ⌜ (n ≤ 64 * length (now row)) × (length (now row) ≤ length (now acc)) × (n ≤ 32768) ⌝ }
+    requires { ⌜ (length (now bins) ≡ 2) × Room n (now bins) ⌝ }
+    ensures { λ _. ⌜ (getD (now (bins .exit)) 0 0 ≡ getD (now (bins .entry)) 0 0 + sumTo (laneOf (wordWith (now (acc .entry)) (now (row .entry)) 18446744073709551615)) n) × (getD (now (bins .exit)) 1 0 ≡ getD (now (bins .entry)) 1 0 + sumTo (laneOf (wordWith (now (acc .entry)) (now (row .entry)) 0)) n) ⌝ }
+{
+    let without = count_with(acc, row, u64::MAX, n);
+    bins[0] = bins[0] + without;
+    let with = count_with(acc, row, 0, n);
+    bins[1] = bins[1] + with;
+}
+
+// Puts acc and a row, flipped, ANDed into the first words of `to`.
+fn and_to(to: &mut [u64], acc: &[u64], row: &[u64], flip: u64)
+    requires { ⌜ (length (now row) ≤ length (now acc)) × (length (now row) ≤ length (now to)) ⌝ }
+    ensures { λ _. ⌜ ((t : ℕ) → t < length (now (row .entry)) → getD (now (to .exit)) t 0 ≡ wordWith (now (acc .entry)) (now (row .entry)) flip t) ⌝ }
+{
     let mut t: usize = 0;
-    while t < m {
-        sum += u64::count_ones(acc[t]);
+    while t < row.len() {
+        to[t] = acc[t] & (row[t] ^ flip);
         t += 1;
     }
-    sum
-}
-
-// The first 64 words, in 8 columns of 8.
-fn total_64(acc: &[u64]) -> u32
-    requires { ⌜ 64 ≤ length (now acc) ⌝ }
-    ensures { λ r. ⌜ (r ≡ sumTo (λ t. ones (getD (now (acc .entry)) t 0 % 2 ^ 64)) 64) × (r ≤ 4096) ⌝ }
-{
-    let mut sum: u32 = 0;
-    let mut t: usize = 0;
-    while t < 8 {
-        sum += eight(
-            acc[t],
-            acc[t + 8],
-            acc[t + 16],
-            acc[t + 24],
-            acc[t + 32],
-            acc[t + 40],
-            acc[t + 48],
-            acc[t + 56],
-        );
-        t += 1;
-    }
-    sum
-}
-
-// The set bits of eight words, counted in four: full adders add three words lane by lane, so that ones, twos and fours are counted.
-fn eight(a: u64, b: u64, c: u64, d: u64, e: u64, f: u64, g: u64, h: u64) -> u32
-    ensures { λ r. ⌜ (r ≡ ones a + ones b + ones c + ones d + ones e + ones f + ones g + ones h) × (r ≤ 512) ⌝ }
-{
-    let p = parity(a, b, c);
-    let x = carry(a, b, c);
-    let q = parity(p, d, e);
-    let y = carry(p, d, e);
-    let r = parity(q, f, g);
-    let z = carry(q, f, g);
-    let s = parity(x, y, z);
-    let t = carry(x, y, z);
-    u64::count_ones(h) + u64::count_ones(r) + 2 * u64::count_ones(s) + 4 * u64::count_ones(t)
-}
-
-// A full adder in each lane: the carry of three bits.
-fn carry(a: u64, b: u64, c: u64) -> u64
-    ensures { λ r. ⌜ r ≡ carryOf a b c ⌝ }
-{
-    (a & b) | ((a ^ b) & c)
-}
-
-// And their parity.
-fn parity(a: u64, b: u64, c: u64) -> u64
-    ensures { λ r. ⌜ r ≡ parityOf a b c ⌝ }
-{
-    (a ^ b) ^ c
-}
-
-// The set bits among the first m of w.
-fn ones_below(w: u64, m: u32) -> u32
-    requires { ⌜ m < 64 ⌝ }
-    ensures { λ r. ⌜ (r ≡ ones (w % 2 ^ m)) × (r ≤ m) ⌝ }
-{
-    u64::count_ones(w & ((1u64 << m) - 1))
 }

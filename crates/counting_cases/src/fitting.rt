@@ -3,7 +3,7 @@ ghost use mathlib.Core.Path.{_≡_};
 ghost use mathlib.Core.Bool.{true};
 ghost use Prim.Native.Nat.{_+_, _*_, _≤_};
 ghost use Rattle.counting.specs.Rows.{RowsIn, BlocksIn};
-ghost use Rattle.counting_cases.specs.Fitting.{InBlock};
+ghost use Rattle.counting_cases.specs.Fitting.{InBlock, Countable};
 
 // Whether every bit lies in a block of `size` bytes.
 pub fn in_block(bits: &[u32], size: usize) -> bool
@@ -63,4 +63,20 @@ pub fn place(bit: u32) -> usize
     ensures { λ r. ⌜ r ≡ bit ⌝ }
 {
     bit as usize
+}
+
+// Whether the bits can be counted: there are 1 to 10, for whose bins there is room, and there can be a bit past the last.
+pub fn countable(bits: &[u32]) -> bool
+    ensures { λ r. ⌜ (r ≡ true → Countable (now (bits .entry))) ⌝ }
+{
+    if bits.len() == 0 {
+        return false;
+    }
+    if bits.len() > 10 {
+        return false;
+    }
+    if bits[bits.len() - 1] == u32::MAX {
+        return false;
+    }
+    true
 }

@@ -2,10 +2,13 @@
 // subsets, for each its width and its bits.
 // Answer: a line with start's refusal and, for each feed, its refusal and the bytes taken after it. Where start is not refused: a line with n; a line for
 // each row, as far as it holds blocks below n; a line for each subset with the counts of its bins and, once more, of its all-ones bin.
-ghost use Prim.Native.Nat.{_≤_};
+ghost use mathlib.Core.Path.{_≡_};
+ghost use Prim.Native.Nat.{_^_, _≤_};
 ghost use lib.ListN.{length};
 ghost use Rattle.counting.specs.Rows.{RowsIn, BlocksIn};
+ghost use Rattle.counting_cases.specs.Fitting.{Countable};
 use crate::fitting::blocks_in;
+use crate::fitting::countable;
 use crate::fitting::rows_in;
 use cases::feeding::dirty;
 use cases::feeding::record;
@@ -151,18 +154,14 @@ fn count_subset(
     words: &[u64],
     stride: usize,
     n: usize,
-) -> usize
-    requires { ⌜ length (now bits) ≤ 20 ⌝ }
-{
+) -> usize {
     let after = numbers(text, at, bits);
     print_counts(bits, words, stride, n);
     after
 }
 
-// Prints 99999999 alone where the rows do not hold the bits or the blocks.
-fn print_counts(bits: &[u32], words: &[u64], stride: usize, n: usize)
-    requires { ⌜ length (now bits) ≤ 20 ⌝ }
-{
+// Prints 99999999 alone where the rows do not hold the bits or the blocks, or the bits cannot be counted here.
+fn print_counts(bits: &[u32], words: &[u64], stride: usize, n: usize) {
     if !rows_in(bits, words, stride) {
         print(99999999);
         end_line();
@@ -173,20 +172,61 @@ fn print_counts(bits: &[u32], words: &[u64], stride: usize, n: usize)
         end_line();
         return;
     }
+    if !countable(bits) {
+        print(99999999);
+        end_line();
+        return;
+    }
     print_bins(bits, words, stride, n);
-    print(multi_eval(bits, words, stride, n) as u64);
+    print_all_set(bits, words, stride, n);
     end_line();
 }
 
 fn print_bins(bits: &[u32], words: &[u64], stride: usize, n: usize)
-    requires { ⌜ length (now bits) ≤ 20 ⌝ }
+    requires { ⌜ Countable (now bits) ⌝ }
     requires { ⌜ RowsIn (now words) stride (now bits) ⌝ }
     requires { ⌜ BlocksIn stride n ⌝ }
 {
-    let bins: u32 = 1 << bits.len() as u32;
-    let mut v: u32 = 0;
-    while v < bins {
-        print(multi_eval_neg(bits, words, stride, n, v) as u64);
+    let mut bins = no_bins();
+    let size = bin_count(bits.len());
+    print_counted(bits, words, stride, n, &mut bins[..size]);
+}
+
+fn no_bins() -> [u32; 1024]
+    ensures { λ r. ⌜ 1024 ≡ length r ⌝ }
+{
+    [0; 1024]
+}
+
+fn bin_count(k: usize) -> usize
+    requires { ⌜ k ≤ 10 ⌝ }
+    ensures { λ r. ⌜ (r ≡ 2 ^ k) × (r ≤ 1024) ⌝ }
+{
+    1 << k
+}
+
+fn print_counted(bits: &[u32], words: &[u64], stride: usize, n: usize, bins: &mut [u32])
+    requires { ⌜ Countable (now bits) × (length (now bins) ≡ 2 ^ length (now bits)) ⌝ }
+    requires { ⌜ RowsIn (now words) stride (now bits) ⌝ }
+    requires { ⌜ BlocksIn stride n ⌝ }
+{
+    multi_eval_neg(bits, words, stride, n, bins);
+    let mut v = 0;
+    while v < bins.len() {
+        print(bins[v] as u64);
         v += 1;
     }
+}
+
+// The bin of all ones by the other call: the last bit goes on from the others.
+fn print_all_set(bits: &[u32], words: &[u64], stride: usize, n: usize)
+    requires { ⌜ Countable (now bits) ⌝ }
+    requires { ⌜ RowsIn (now words) stride (now bits) ⌝ }
+    requires { ⌜ BlocksIn stride n ⌝ }
+{
+    let mut counts = [0u32; 1];
+    let last = bits.len() - 1;
+    let next = bits[last] as usize;
+    multi_eval(&bits[..last], next, words, stride, n, &mut counts);
+    print(counts[0] as u64);
 }

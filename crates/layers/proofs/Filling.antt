@@ -72,7 +72,7 @@ begins bit n B d store bits h e =
 -- ---- one subset's bins, in their place
 
 -- an entry of the part that was put back, and one before it
-part-at : (at k u : ℕ) (xs ys : List ℕ) → at ≤ length xs → u < length ys → getD (putMid at k xs ys) (at + u) 0 ≡ getD ys u 0
+pub part-at : (at k u : ℕ) (xs ys : List ℕ) → at ≤ length xs → u < length ys → getD (putMid at k xs ys) (at + u) 0 ≡ getD ys u 0
 part-at at k u xs ys h l =
     let e : at + u ≡ length (take at xs) + u = omega (arith, length-take-le at xs h) in
     ap (λ (i : ℕ). getD (putMid at k xs ys) i 0) e ∙ getD-append-add (take at xs) (ys ++ drop k (drop at xs)) u 0 ∙ List·getD-append ys (drop k (drop at xs)) 0 u l

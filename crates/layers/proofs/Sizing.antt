@@ -8,9 +8,9 @@ use native.Mathlib.Decide.{ℕ-discrete}
 use lib.Dec.{leb}
 use lib.Pow.{pow-pos, pow-mono}
 use borrow.Author.Tests.{leb-true, le-leb, lt-leb}
-use Rattle.subsets.specs.Choose.{choose, chooseUpTo}
+use Rattle.subsets.specs.Choose.{choose, upTo, chooseUpTo}
 use Rattle.layers.specs.Layers.{layerSize}
-use Rattle.layers.specs.Size.{upTo, largestLayer, storeSize, storeRefusal, StoresSuffice}
+use Rattle.layers.specs.Size.{largestLayer, storeSize, storeRefusal, StoresSuffice}
 
 -- ---- one layer
 

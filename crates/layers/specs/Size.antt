@@ -1,6 +1,6 @@
 -- W, the entries that each of the two stores must have.
 use mathlib.Core.Path.{_≡_}
-use Prim.Native.Nat.{ℕ, zero, suc, _+_, _-_, _^_, _≤_, min, max}
+use Prim.Native.Nat.{ℕ, zero, suc, _-_, _^_, _≤_, max}
 use mathlib.Core.Bool.{cond}
 use lib.Dec.{leb}
 use Rattle.subsets.specs.Choose.{choose}
@@ -14,10 +14,6 @@ largestLayer B (suc m) = max (largestLayer B m) (layerSize B (suc m))
 -- W: the largest of the layers from 1 to max(1, k − 1)
 unfoldable pub storeSize : ℕ → ℕ → ℕ
 storeSize B k = largestLayer B (max 1 (k - 1))
-
--- a number of entries where that is at most 2^32; 2^32 + 1 stands for whatever is more
-abbrev pub upTo : ℕ → ℕ
-upTo x = min x (2 ^ 32 + 1)
 
 -- 6: W is above 2^32, or a store, of a or of b entries, is shorter than W; 0: neither
 unfoldable pub storeRefusal : ℕ → ℕ → ℕ → ℕ → ℕ

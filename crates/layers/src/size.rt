@@ -3,7 +3,8 @@ use subsets::choose::choose;
 ghost use mathlib.Core.Path.{_≡_};
 ghost use Prim.Native.Nat.{_≤_, _<_};
 ghost use Rattle.layers.specs.Layers.{layerSize};
-ghost use Rattle.layers.specs.Size.{upTo, storeSize, storeRefusal};
+ghost use Rattle.subsets.specs.Choose.{upTo};
+ghost use Rattle.layers.specs.Size.{storeSize, storeRefusal};
 
 // The entries of layer d where they are at most 2^32, and else 2^32 + 1. The product fits, since `choose` stops at 2^32 + 1 too.
 fn layer_size(block_size: usize, d: usize) -> usize

@@ -1,21 +1,15 @@
--- A buffer that is filled from the front, one entry a turn.
-use mathlib.Core.Path.{_≡_, sym, ap, _∙_}
-use mathlib.Core.List.{List, [], _∷_, _++_, append-assoc}
-use Prim.Native.Nat.{ℕ, suc, _+_, _^_, _≤_, _<_}
-use native.Mathlib.Numerals.{add-one}
+-- Buffers of which the first entries were replaced, and the room for a run.
+use mathlib.Core.Path.{_≡_, ap, _∙_}
+use mathlib.Core.List.{List, _++_}
+use Prim.Native.Nat.{ℕ, _+_, _^_, _≤_}
 use native.Mathlib.Omega.{arith}
-use lib.ListN.{length, set, take, drop, getD, length-append, length-drop}
-use lib.Seq.{drop-cons, set-at, take-at, drop-at}
-use Rattle.counting.specs.Sample.{listOf, countsOf, countIn}
+use lib.ListN.{length, take, drop, length-append, length-drop}
+use lib.Seq.{take-at, drop-at}
+use Rattle.counting.specs.Sample.{countsOf, countIn}
 use Rattle.counting.proofs.Counts.{length-list}
+use Rattle.layers.specs.Run.{RunRoom}
 use Rattle.ranking.specs.Order.{orderOf}
 use Rattle.ranking.proofs.Totals.{order-length}
-
-pub list-put : (f : ℕ → ℕ) (l : List ℕ) (v : ℕ) → v < length l → set (listOf v f ++ drop v l) v (f v) ≡ listOf (v + 1) f ++ drop (v + 1) l
-unfolding listOf
-list-put f l v h =
-    rw (add-one, drop-cons l v 0)
-    (set-at (listOf v f) (getD l v 0) (drop (suc v) l) (f v) v (length-list v f) ∙ sym (append-assoc (listOf v f) (f v ∷ []) (drop (suc v) l)))
 
 -- a buffer whose first m entries were replaced has its length, these first, and what was past them
 module _ (m : ℕ) (xs l : List ℕ) (size : length xs ≡ m) where
@@ -42,3 +36,8 @@ module _ (bit : ℕ → ℕ → ℕ) (n k : ℕ) (bits l l′ : List ℕ) (size 
 
   pub order-rest : l′ ≡ orderOf (countsOf bit n bits) ++ drop (2 ^ length bits) l → drop (2 ^ k) l′ ≡ drop (2 ^ k) l
   order-rest e = rw (← size) (ap (drop (2 ^ length bits)) e ∙ replaced-rest (2 ^ length bits) (orderOf (countsOf bit n bits)) l (length-order bit n bits))
+
+-- ---- the room for a run, in buffers of the same lengths
+
+pub room-stays : (B k m : ℕ) (counts ranks counts′ ranks′ : List ℕ) → length counts′ ≡ length counts → length ranks′ ≡ length ranks → m ≡ k → RunRoom B k counts ranks → RunRoom B m counts′ ranks′
+room-stays B k m counts ranks counts′ ranks′ c r e w = record { bits = omega (arith, w .bits); chosen = omega (arith, w .chosen) }

@@ -17,8 +17,9 @@ use Rattle.subsets.specs.Choose.{choose}
 use Rattle.subsets.specs.Rank.{rankOf}
 use Rattle.subsets.specs.Stepping.{Stepped}
 use Rattle.subsets.proofs.Filling.{padded-front, padded-rest, padded-of, padded-length}
-use Rattle.subsets.proofs.Ranking.{next-falls}
-use Rattle.subsets.proofs.Visiting.{searches, length-run}
+use Rattle.subsets.proofs.Choosing.{choose-all}
+use Rattle.subsets.proofs.Ranking.{ranks, next-falls}
+use Rattle.subsets.proofs.Visiting.{searches, length-run, run-subset}
 use Rattle.searching.specs.Finding.{zOf, winnerOf}
 
 -- ---- the order of the scores
@@ -101,6 +102,17 @@ module _ (bit : ℕ → ℕ → ℕ) (n B k : ℕ) (chosen : k ≤ B) (width : k
 pub winner-optimal : (bit : ℕ → ℕ → ℕ) (n B k : ℕ) → k ≤ B → Optimal lt (zOf bit n) B k (winnerOf bit n B k)
 unfolding winnerOf
 winner-optimal bit n B k chosen = by-z bit n B k .optimal chosen
+
+-- a block of k bits has one k-subset
+pub only-winner : (bit : ℕ → ℕ → ℕ) (n B k : ℕ) → k ≡ B → winnerOf bit n B k ≡ run 0 k
+only-winner bit n B k e =
+    let won = winner-optimal bit n B k (omega arith) .subset in
+    let first : k ≤ B = omega arith in
+    let one : choose B k ≡ 1 = ap (choose B) e ∙ choose-all B in
+    ranks B k .same (winnerOf bit n B k) (run 0 k) won (run-subset B k first)
+    (let low : rankOf B (winnerOf bit n B k) < choose B k = ranks B k .below (winnerOf bit n B k) won in
+    let zero : rankOf B (run 0 k) ≡ 0 = ranks B k .first first in
+    omega arith)
 
 pub winner-front : (bit : ℕ → ℕ → ℕ) (n B k : ℕ) (bits : List ℕ) → k ≤ B → bits ≡ padded (winnerOf bit n B k) → take k bits ≡ winnerOf bit n B k
 winner-front bit n B k bits chosen e = ap (take k) e ∙ padded-front k (winnerOf bit n B k) (winner-optimal bit n B k chosen .subset .size)

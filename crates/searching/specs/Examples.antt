@@ -8,6 +8,7 @@ use lib.IntN.{pos}
 use Rattle.counting.specs.Recording.{blocksIn, recordedBit}
 use Rattle.counting.specs.Sample.{countsOf}
 use Rattle.ranking.specs.Order.{orderOf}
+use Rattle.ranking.specs.Ranking.{zeroScore}
 use Rattle.layers.specs.Examples.{StoresOfEight}
 use Rattle.subsets.specs.Examples.{RanksOfEight}
 use Rattle.searching.specs.Finding.{winnerOf, rankingOf}
@@ -18,10 +19,7 @@ pub record Finds (bytes : List ℕ) (k : ℕ) (bits order : List ℕ) (division 
   pub ordered : orderOf (countsOf (recordedBit 8 bytes) (blocksIn 8 bytes) bits) ≡ order
   pub ranked : rankingOf (recordedBit 8 bytes) (blocksIn 8 bytes) bits ≡ record { division = division; z = z }
 
--- 0 and 2 as doubles
-abbrev pub none : Float
-none = fin false 0 (pos 0)
-
+-- 2 as a double
 abbrev pub two : Float
 two = fin false 1 (pos 1)
 
@@ -30,9 +28,9 @@ pub record Examples : Type 0 where
   -- 80 80 80 80: the first bit is always set
   pub always : Finds (0x80 ∷ 0x80 ∷ 0x80 ∷ 0x80 ∷ []) 1 (0 ∷ []) (1 ∷ 0 ∷ []) 1 two
   -- FF 00: every bit is set once, so all tie
-  pub ties : Finds (0xff ∷ 0 ∷ []) 1 (0 ∷ []) (0 ∷ 1 ∷ []) 1 none
+  pub ties : Finds (0xff ∷ 0 ∷ []) 1 (0 ∷ []) (0 ∷ 1 ∷ []) 1 zeroScore
   -- nothing recorded
-  pub empty : Finds [] 3 (0 ∷ 1 ∷ 2 ∷ []) (0 ∷ 1 ∷ 2 ∷ 3 ∷ 4 ∷ 5 ∷ 6 ∷ 7 ∷ []) 1 none
+  pub empty : Finds [] 3 (0 ∷ 1 ∷ 2 ∷ []) (0 ∷ 1 ∷ 2 ∷ 3 ∷ 4 ∷ 5 ∷ 6 ∷ 7 ∷ []) 1 zeroScore
   -- 00 00 FF FF: two bits that agree
   pub together : Finds (0 ∷ 0 ∷ 0xff ∷ 0xff ∷ []) 2 (0 ∷ 1 ∷ []) (0 ∷ 3 ∷ 1 ∷ 2 ∷ []) 2 two
   -- ranks of pairs

@@ -1,12 +1,10 @@
 -- The search of a sample: every k-subset is ranked by its counts, and the first with the greatest z is found.
 use Prim.Native.Nat.{ℕ}
-use mathlib.Core.Bool.{false}
 use mathlib.Core.List.{List}
-use lib.Ieee.{Float, fin, lt}
-use lib.IntN.{pos}
+use lib.Ieee.{Float, lt}
 use lib.ListN.{length, replicate}
 use Rattle.counting.specs.Sample.{countsOf}
-use Rattle.ranking.specs.Ranking.{scoreOf}
+use Rattle.ranking.specs.Ranking.{zeroScore, scoreOf}
 use Rattle.ranking.specs.declared.ranking.Ranking.{Ranking}
 use Rattle.subsets.specs.Subsets.{padded}
 use Rattle.subsets.specs.Best.{bestSubset}
@@ -38,7 +36,7 @@ findingOf bit n B bits =
 
 -- beside a refusal every field is 0
 abbrev pub noFinding : Finding
-noFinding = record { «block_size» = 0; width = 0; bits = replicate 20 0; division = 0; z = fin false 0 (pos 0) }
+noFinding = record { «block_size» = 0; width = 0; bits = replicate 20 0; division = 0; z = zeroScore }
 
 abbrev pub refusedWith : ℕ → Searched
 refusedWith r = record { refusal = r; finding = noFinding }

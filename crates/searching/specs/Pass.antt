@@ -6,6 +6,7 @@ use lib.ListN.{length, drop}
 use Rattle.counting.specs.Rows.{BlocksIn}
 use Rattle.counting.specs.Sample.{countsOf}
 use Rattle.layers.specs.Layers.{Holds}
+use Rattle.layers.specs.Run.{Run, RunRoom}
 use Rattle.layers.specs.Size.{Stored}
 use Rattle.ranking.specs.Order.{orderOf}
 use Rattle.searching.specs.Finding.{winnerOf, findingOf}
@@ -27,6 +28,15 @@ Room k bins order = (2 ^ k ≤ length bins) × (2 ^ k ≤ length order)
 -- the layer that a candidate's bins are worked out from: none, where every bin is counted, or layer k - 1
 pub record LayerBelow (bit : ℕ → ℕ → ℕ) (n B k : ℕ) (layer : List ℕ) : Type 0 where
   pub holds : 0 < length layer → Holds bit n B (k - 1) layer
+
+-- where a layer is lent, there is room for the counts and the ranks of a run
+abbrev pub Space : ℕ → ℕ → List ℕ → List ℕ → List ℕ → Type 0
+Space B k layer counts ranks = 0 < length layer → RunRoom B k counts ranks
+
+-- and where a candidate is ranked from it, its run stands in them
+pub record Ready (bit : ℕ → ℕ → ℕ) (n B : ℕ) (layer bits counts ranks : List ℕ) : Type 0 where
+  pub space : Space B (length bits) layer counts ranks
+  pub run : 0 < length layer → Run bit n B bits counts ranks
 
 -- What a pass over n blocks leaves: the winner as the finding, its counts and bin order first in the buffers, and past them what was there.
 pub record Won (bit : ℕ → ℕ → ℕ) (n B k : ℕ) (bins order : List ℕ) (r : Finding) (bins′ order′ : List ℕ) : Type 0 where

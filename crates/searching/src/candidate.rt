@@ -3,14 +3,13 @@ ghost use mathlib.Core.Path.{_≡_};
 ghost use Prim.Native.Nat.{_^_, _≤_};
 ghost use mathlib.Core.List.{_++_};
 ghost use lib.ListN.{length, drop};
-ghost use Rattle.counting.specs.Rows.{RowsIn, BlocksIn};
 ghost use Rattle.counting.specs.Sample.{countsOf};
 ghost use Rattle.counting.specs.Words.{storedBit};
 ghost use Rattle.ranking.specs.Order.{orderOf};
 ghost use Rattle.ranking.specs.Ranking.{Roots};
 ghost use Rattle.subsets.specs.Subsets.{Subset};
 ghost use Rattle.searching.specs.Finding.{rankingOf};
-ghost use Rattle.searching.specs.Pass.{Searchable, Room, LayerBelow};
+ghost use Rattle.searching.specs.Pass.{Searchable, Room, LayerBelow, Ready};
 use counting::rows::multi_eval_neg;
 use layers::layers::compute_bins;
 use ranking::ranking::Ranking;
@@ -25,6 +24,8 @@ pub fn rank_candidate(
     n: usize,
     block_size: usize,
     layer: &[u32],
+    counts: &[u32],
+    ranks: &[usize],
     roots: &[f64],
     bins: &mut [u32],
     order: &mut [u32],
@@ -32,17 +33,28 @@ pub fn rank_candidate(
     requires { ⌜ Searchable (length (now words)) stride n «block_size» (length (now bits)) ⌝ }
     requires { ⌜ Subset «block_size» (length (now bits)) (now bits) ⌝ }
     requires { ⌜ LayerBelow (storedBit stride (now words)) n «block_size» (length (now bits)) (now layer) ⌝ }
+    requires { ⌜ Ready (storedBit stride (now words)) n «block_size» (now layer) (now bits) (now counts) (now ranks) ⌝ }
     requires { ⌜ Room (length (now bits)) (now bins) (now order) ⌝ }
     requires { ⌜ Roots n (length (now bits)) (now roots) ⌝ }
     ensures { λ r. ⌜ r ≡ rankingOf (storedBit stride (now (words .entry))) n (now (bits .entry)) ⌝ }
     ensures { λ _. ⌜ now (bins .exit) ≡ countsOf (storedBit stride (now (words .entry))) n (now (bits .entry)) ++ drop (2 ^ length (now (bits .entry))) (now (bins .entry)) ⌝ }
     ensures { λ _. ⌜ now (order .exit) ≡ orderOf (countsOf (storedBit stride (now (words .entry))) n (now (bits .entry))) ++ drop (2 ^ length (now (bits .entry))) (now (order .entry)) ⌝ }
 {
-    fill_bins(bits, words, stride, n, block_size, layer, bins);
+    fill_bins(
+        bits,
+        words,
+        stride,
+        n,
+        block_size,
+        layer,
+        counts,
+        ranks,
+        bins,
+    );
     from_bins(bins, order, n as u32, bits.len(), roots)
 }
 
-// The counts of the bits' bins: all counted where no layer is lent, else one counted and the others from the layer below.
+// The counts of the bits' bins: all counted where no layer is lent, else one is among the counts of the run and the others come from the layer below.
 fn fill_bins(
     bits: &[u32],
     words: &[u64],
@@ -50,32 +62,31 @@ fn fill_bins(
     n: usize,
     block_size: usize,
     layer: &[u32],
+    counts: &[u32],
+    ranks: &[usize],
     bins: &mut [u32],
 )
     requires { ⌜ Searchable (length (now words)) stride n «block_size» (length (now bits)) ⌝ }
     requires { ⌜ Subset «block_size» (length (now bits)) (now bits) ⌝ }
     requires { ⌜ LayerBelow (storedBit stride (now words)) n «block_size» (length (now bits)) (now layer) ⌝ }
+    requires { ⌜ Ready (storedBit stride (now words)) n «block_size» (now layer) (now bits) (now counts) (now ranks) ⌝ }
     requires { ⌜ 2 ^ length (now bits) ≤ length (now bins) ⌝ }
     ensures { λ _. ⌜ now (bins .exit) ≡ countsOf (storedBit stride (now (words .entry))) n (now (bits .entry)) ++ drop (2 ^ length (now (bits .entry))) (now (bins .entry)) ⌝ }
 {
     if layer.len() == 0 {
-        count_bins(bits, words, stride, n, bins);
+        let m = bin_count(bits.len());
+        multi_eval_neg(bits, words, stride, n, &mut bins[..m]);
     } else {
-        compute_bins(bits, words, stride, n, block_size, layer, bins);
-    }
-}
-
-// Counts every bin of the bits from the rows.
-fn count_bins(bits: &[u32], words: &[u64], stride: usize, n: usize, bins: &mut [u32])
-    requires { ⌜ (length (now bits) ≤ 20) × (2 ^ length (now bits) ≤ length (now bins)) ⌝ }
-    requires { ⌜ RowsIn (now words) stride (now bits) ⌝ }
-    requires { ⌜ BlocksIn stride n ⌝ }
-    ensures { λ _. ⌜ now (bins .exit) ≡ countsOf (storedBit stride (now (words .entry))) n (now (bits .entry)) ++ drop (2 ^ length (now (bits .entry))) (now (bins .entry)) ⌝ }
-{
-    let m = bin_count(bits.len());
-    let mut v: usize = 0;
-    while v < m {
-        bins[v] = multi_eval_neg(bits, words, stride, n, v as u32);
-        v += 1;
+        compute_bins(
+            bits,
+            words,
+            stride,
+            n,
+            block_size,
+            layer,
+            counts,
+            ranks,
+            bins,
+        );
     }
 }

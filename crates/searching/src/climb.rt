@@ -4,6 +4,7 @@ ghost use Prim.Native.Nat.{_+_, _≤_, _<_};
 ghost use lib.ListN.{length, drop};
 ghost use Rattle.counting.specs.Words.{storedBit};
 ghost use Rattle.layers.specs.Layers.{Holds};
+ghost use Rattle.layers.specs.Run.{RunRoom};
 ghost use Rattle.layers.specs.Size.{storeSize};
 ghost use Rattle.searching.specs.Pass.{Searchable, Room, Suffice, Won};
 use crate::finding::Finding;
@@ -28,14 +29,79 @@ pub fn find_layered(
     ensures { λ r. ⌜ Won (storedBit stride (now (words .entry))) n «block_size» k (now (bins .entry)) (now (order .entry)) r (now (bins .exit)) (now (order .exit)) ⌝ }
     ensures { λ _. ⌜ (drop (storeSize «block_size» k) (now (first .exit)) ≡ drop (storeSize «block_size» k) (now (first .entry))) × (drop (storeSize «block_size» k) (now (second .exit)) ≡ drop (storeSize «block_size» k) (now (second .entry))) ⌝ }
 {
+    let mut counts = no_counts();
+    let mut ranks = no_ranks();
+    find_in_run(
+        &mut counts[..],
+        &mut ranks[..],
+        words,
+        stride,
+        n,
+        block_size,
+        k,
+        first,
+        second,
+        bins,
+        order,
+    )
+}
+
+// Room for the counts of a run: a block has at most 4,096 bits.
+fn no_counts() -> [u32; 4096]
+    ensures { λ r. ⌜ 4096 ≡ length r ⌝ }
+{
+    [0; 4096]
+}
+
+// Room for its ranks.
+fn no_ranks() -> [usize; 20]
+    ensures { λ r. ⌜ 20 ≡ length r ⌝ }
+{
+    [0; 20]
+}
+
+// The same with that room.
+fn find_in_run(
+    counts: &mut [u32],
+    ranks: &mut [usize],
+    words: &[u64],
+    stride: usize,
+    n: usize,
+    block_size: usize,
+    k: usize,
+    first: &mut [u32],
+    second: &mut [u32],
+    bins: &mut [u32],
+    order: &mut [u32],
+) -> Finding
+    requires { ⌜ RunRoom «block_size» k (now counts) (now ranks) ⌝ }
+    requires { ⌜ Searchable (length (now words)) stride n «block_size» k ⌝ }
+    requires { ⌜ Suffice «block_size» k (length (now first)) (length (now second)) ⌝ }
+    requires { ⌜ Room k (now bins) (now order) ⌝ }
+    ensures { λ r. ⌜ Won (storedBit stride (now (words .entry))) n «block_size» k (now (bins .entry)) (now (order .entry)) r (now (bins .exit)) (now (order .exit)) ⌝ }
+    ensures { λ _. ⌜ (drop (storeSize «block_size» k) (now (first .exit)) ≡ drop (storeSize «block_size» k) (now (first .entry))) × (drop (storeSize «block_size» k) (now (second .exit)) ≡ drop (storeSize «block_size» k) (now (second .entry))) ⌝ }
+{
     // Layer 0: the one bin of the empty subset has all blocks.
     let none = [n as u32];
     if k == 1 {
-        return find(words, stride, n, block_size, k, &none, bins, order);
+        return find(
+            words,
+            stride,
+            n,
+            block_size,
+            k,
+            &none,
+            counts,
+            ranks,
+            bins,
+            order,
+        );
     }
-    fill_layer(1, words, stride, n, block_size, &none, first);
+    fill_layer(1, words, stride, n, block_size, &none, counts, ranks, first);
     climb(
         1,
+        counts,
+        ranks,
         words,
         stride,
         n,
@@ -51,6 +117,8 @@ pub fn find_layered(
 // Layer d stands in the lower store: the next is made in the upper one and the two change places, until layer k - 1 stands.
 fn climb(
     d: usize,
+    counts: &mut [u32],
+    ranks: &mut [usize],
     words: &[u64],
     stride: usize,
     n: usize,
@@ -62,6 +130,7 @@ fn climb(
     order: &mut [u32],
 ) -> Finding
     requires { ⌜ (1 ≤ d) × (d < k) ⌝ }
+    requires { ⌜ RunRoom «block_size» k (now counts) (now ranks) ⌝ }
     requires { ⌜ Searchable (length (now words)) stride n «block_size» k ⌝ }
     requires { ⌜ Suffice «block_size» k (length (now lower)) (length (now upper)) ⌝ }
     requires { ⌜ Holds (storedBit stride (now words)) n «block_size» d (now lower) ⌝ }
@@ -71,11 +140,34 @@ fn climb(
 {
     let above = d + 1;
     if above == k {
-        return find(words, stride, n, block_size, k, lower, bins, order);
+        return find(
+            words,
+            stride,
+            n,
+            block_size,
+            k,
+            lower,
+            counts,
+            ranks,
+            bins,
+            order,
+        );
     }
-    fill_layer(above, words, stride, n, block_size, lower, upper);
+    fill_layer(
+        above,
+        words,
+        stride,
+        n,
+        block_size,
+        lower,
+        counts,
+        ranks,
+        upper,
+    );
     climb(
         above,
+        counts,
+        ranks,
         words,
         stride,
         n,

@@ -4,3 +4,4 @@ pub mod climb;
 pub mod finding;
 pub mod pass;
 pub mod search;
+pub mod stepping;

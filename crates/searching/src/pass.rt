@@ -6,16 +6,17 @@ ghost use Rattle.counting.specs.Words.{storedBit};
 ghost use Rattle.ranking.specs.Ranking.{Roots};
 ghost use Rattle.subsets.specs.Subsets.{padded};
 ghost use Rattle.searching.specs.Finding.{winnerOf};
-ghost use Rattle.searching.specs.Pass.{Searchable, Room, LayerBelow, Won};
+ghost use Rattle.searching.specs.Pass.{Searchable, Room, LayerBelow, Space, Won};
 use crate::candidate::rank_candidate;
 use crate::finding::Finding;
+use crate::stepping::begin;
+use crate::stepping::step;
 use ranking::ranking::Ranking;
 use ranking::ranking::fill_roots;
 use subsets::stepping::first;
-use subsets::stepping::successor;
 
 // Finds the best k-subset. Its counts and bin order are left in the buffers, whose entries past 2 ^ k stay.
-// An empty layer means that every bin is counted; else layer k - 1 stands in it.
+// An empty layer means that every bin is counted; else layer k - 1 stands in it. What is left in counts and ranks is free.
 pub fn find(
     words: &[u64],
     stride: usize,
@@ -23,11 +24,14 @@ pub fn find(
     block_size: usize,
     k: usize,
     layer: &[u32],
+    counts: &mut [u32],
+    ranks: &mut [usize],
     bins: &mut [u32],
     order: &mut [u32],
 ) -> Finding
     requires { ⌜ Searchable (length (now words)) stride n «block_size» k ⌝ }
     requires { ⌜ LayerBelow (storedBit stride (now words)) n «block_size» k (now layer) ⌝ }
+    requires { ⌜ Space «block_size» k (now layer) (now counts) (now ranks) ⌝ }
     requires { ⌜ Room k (now bins) (now order) ⌝ }
     ensures { λ r. ⌜ Won (storedBit stride (now (words .entry))) n «block_size» k (now (bins .entry)) (now (order .entry)) r (now (bins .exit)) (now (order .exit)) ⌝ }
 {
@@ -41,6 +45,8 @@ pub fn find(
         block_size,
         k,
         layer,
+        counts,
+        ranks,
         bins,
         order,
     )
@@ -69,18 +75,43 @@ fn find_with(
     block_size: usize,
     k: usize,
     layer: &[u32],
+    counts: &mut [u32],
+    ranks: &mut [usize],
     bins: &mut [u32],
     order: &mut [u32],
 ) -> Finding
     requires { ⌜ length (now roots) ≤ 256 ⌝ }
     requires { ⌜ Searchable (length (now words)) stride n «block_size» k ⌝ }
     requires { ⌜ LayerBelow (storedBit stride (now words)) n «block_size» k (now layer) ⌝ }
+    requires { ⌜ Space «block_size» k (now layer) (now counts) (now ranks) ⌝ }
     requires { ⌜ Room k (now bins) (now order) ⌝ }
     ensures { λ r. ⌜ Won (storedBit stride (now (words .entry))) n «block_size» k (now (bins .entry)) (now (order .entry)) r (now (bins .exit)) (now (order .exit)) ⌝ }
 {
     fill_roots(roots, n as u32, k);
-    let bits = walk(words, stride, n, block_size, k, layer, roots, bins, order);
+    let bits = pick(
+        words,
+        stride,
+        n,
+        block_size,
+        k,
+        layer,
+        roots,
+        counts,
+        ranks,
+        bins,
+        order,
+    );
     // The pass leaves the last candidate in the buffers.
+    begin(
+        &bits[..k],
+        words,
+        stride,
+        n,
+        block_size,
+        layer,
+        counts,
+        ranks,
+    );
     let ranking = rank_candidate(
         &bits[..k],
         words,
@@ -88,6 +119,8 @@ fn find_with(
         n,
         block_size,
         layer,
+        counts,
+        ranks,
         roots,
         bins,
         order,
@@ -101,7 +134,47 @@ fn find_with(
     }
 }
 
-// The best k-subset: a later one takes the place of the best so far only where its z is greater.
+// The best k-subset. A block of k bits has one only, which the pass would rank twice.
+fn pick(
+    words: &[u64],
+    stride: usize,
+    n: usize,
+    block_size: usize,
+    k: usize,
+    layer: &[u32],
+    roots: &[f64],
+    counts: &mut [u32],
+    ranks: &mut [usize],
+    bins: &mut [u32],
+    order: &mut [u32],
+) -> [u32; 20]
+    requires { ⌜ Searchable (length (now words)) stride n «block_size» k ⌝ }
+    requires { ⌜ LayerBelow (storedBit stride (now words)) n «block_size» k (now layer) ⌝ }
+    requires { ⌜ Space «block_size» k (now layer) (now counts) (now ranks) ⌝ }
+    requires { ⌜ Room k (now bins) (now order) ⌝ }
+    requires { ⌜ Roots n k (now roots) ⌝ }
+    ensures { λ r. ⌜ r ≡ padded (winnerOf (storedBit stride (now (words .entry))) n «block_size» k) ⌝ }
+    ensures { λ _. ⌜ (drop (2 ^ k) (now (bins .exit)) ≡ drop (2 ^ k) (now (bins .entry))) × (drop (2 ^ k) (now (order .exit)) ≡ drop (2 ^ k) (now (order .entry))) ⌝ }
+{
+    if k == block_size {
+        return first(k);
+    }
+    walk(
+        words,
+        stride,
+        n,
+        block_size,
+        k,
+        layer,
+        roots,
+        counts,
+        ranks,
+        bins,
+        order,
+    )
+}
+
+// The pass: a later subset takes the place of the best so far only where its z is greater.
 // The buffers are left at the last candidate.
 fn walk(
     words: &[u64],
@@ -111,11 +184,14 @@ fn walk(
     k: usize,
     layer: &[u32],
     roots: &[f64],
+    counts: &mut [u32],
+    ranks: &mut [usize],
     bins: &mut [u32],
     order: &mut [u32],
 ) -> [u32; 20]
     requires { ⌜ Searchable (length (now words)) stride n «block_size» k ⌝ }
     requires { ⌜ LayerBelow (storedBit stride (now words)) n «block_size» k (now layer) ⌝ }
+    requires { ⌜ Space «block_size» k (now layer) (now counts) (now ranks) ⌝ }
     requires { ⌜ Room k (now bins) (now order) ⌝ }
     requires { ⌜ Roots n k (now roots) ⌝ }
     ensures { λ r. ⌜ r ≡ padded (winnerOf (storedBit stride (now (words .entry))) n «block_size» k) ⌝ }
@@ -123,6 +199,16 @@ fn walk(
 {
     let mut bits = first(k);
     let mut best = bits;
+    begin(
+        &bits[..k],
+        words,
+        stride,
+        n,
+        block_size,
+        layer,
+        counts,
+        ranks,
+    );
     let ranking = rank_candidate(
         &bits[..k],
         words,
@@ -130,12 +216,24 @@ fn walk(
         n,
         block_size,
         layer,
+        counts,
+        ranks,
         roots,
         bins,
         order,
     );
     let mut z = ranking.z;
-    while successor(&mut bits, k, block_size) {
+    while step(
+        &mut bits,
+        k,
+        words,
+        stride,
+        n,
+        block_size,
+        layer,
+        counts,
+        ranks,
+    ) {
         let next = rank_candidate(
             &bits[..k],
             words,
@@ -143,6 +241,8 @@ fn walk(
             n,
             block_size,
             layer,
+            counts,
+            ranks,
             roots,
             bins,
             order,

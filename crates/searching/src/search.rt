@@ -30,6 +30,8 @@ pub fn brute_force_threads(
     let block_size = sampler.block_size;
     let n = sampler.taken / (block_size / 8);
     let none: [u32; 0] = [];
+    let mut no_counts: [u32; 0] = [];
+    let mut no_ranks: [usize; 0] = [];
     let finding = find(
         words,
         words.len() / block_size,
@@ -37,6 +39,8 @@ pub fn brute_force_threads(
         block_size,
         k,
         &none,
+        &mut no_counts,
+        &mut no_ranks,
         bins,
         order,
     );

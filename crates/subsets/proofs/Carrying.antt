@@ -17,7 +17,7 @@ use Rattle.subsets.proofs.Filling.{drop-next}
 
 -- ---- a list with one more at its end
 
-abbrev snoc : List ℕ → ℕ → List ℕ
+abbrev pub snoc : List ℕ → ℕ → List ℕ
 snoc s a = s ++ (a ∷ [])
 
 -- all below the last
@@ -33,7 +33,7 @@ rising-below : (lo hi hi′ : ℕ) (s : List ℕ) → hi ≤ hi′ → Rising lo
 rising-below lo hi hi′ [] h r = tt
 rising-below lo hi hi′ (a ∷ s) h r = (r .0, omega arith, rising-below (suc a) hi hi′ s h (r .2))
 
-length-snoc : (s : List ℕ) (a : ℕ) → length (snoc s a) ≡ suc (length s)
+pub length-snoc : (s : List ℕ) (a : ℕ) → length (snoc s a) ≡ suc (length s)
 length-snoc [] a = refl
 length-snoc (b ∷ s) a = ap suc (length-snoc s a)
 
@@ -97,7 +97,7 @@ subset-below B B′ k s h r = record { size = r .size; rising = rising-below 0 B
 by-end : (B k : ℕ) (P : List ℕ → Type 0) → ((v : List ℕ) (x : ℕ) → Subset B (suc k) (snoc v x) → P (snoc v x)) → (u : List ℕ) → Subset B (suc k) u → P u
 by-end B k P f u U = let w = unsnoc k u (U .size) in subst P (sym (w .is)) (f (w .init) (w .end) (subst (Subset B (suc k)) (w .is) U))
 
-bump : (B k : ℕ) (s : List ℕ) (a : ℕ) → Subset B (suc k) (snoc s a) → suc a < B → Next B (suc k) (snoc s a) (snoc s (suc a))
+pub bump : (B k : ℕ) (s : List ℕ) (a : ℕ) → Subset B (suc k) (snoc s a) → suc a < B → Next B (suc k) (snoc s a) (snoc s (suc a))
 bump B k s a h l = record {
   subset = subset-snoc B k s (suc a) (subset-below a (suc a) k s (omega arith) (subset-init B k s a h)) l;
   after = lex-ends s a (suc a) (omega arith);

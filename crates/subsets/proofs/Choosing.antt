@@ -41,7 +41,7 @@ choose-step (suc n) (suc j) =
 
 -- ---- the two halves of a row are alike
 
-choose-all : (n : ℕ) → choose n n ≡ 1
+pub choose-all : (n : ℕ) → choose n n ≡ 1
 choose-all zero = refl
 choose-all (suc n) = ap₂ _+_ (choose-all n) (none-beyond n (suc n) (omega arith))
 

@@ -7,6 +7,10 @@ choose n zero = 1
 choose zero (suc r) = 0
 choose (suc n) (suc r) = choose n r + choose n (suc r)
 
--- n choose r where that is at most 2^32; 2^32 + 1 stands for whatever is more
+-- a number where that is at most 2^32; 2^32 + 1 stands for whatever is more
+abbrev pub upTo : ℕ → ℕ
+upTo x = min x (2 ^ 32 + 1)
+
+-- n choose r, so far
 unfoldable pub chooseUpTo : ℕ → ℕ → ℕ
-chooseUpTo n r = min (choose n r) (2 ^ 32 + 1)
+chooseUpTo n r = upTo (choose n r)

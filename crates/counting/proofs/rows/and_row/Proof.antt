@@ -1,21 +1,20 @@
 -- `rows::and_row` meets its contract: word by word up to the row's end.
 use Prim.Native.Nat.{ℕ, _≤_, _-_}
 use mathlib.Core.Path.{_≡_, ap}
-use native.Mathlib.Omega.{arith}
 use native.Mathlib.Nat.{le-refl}
+use lib.Bits.{bitAnd}
 use lib.ListN.{length, getD, length-set}
-use lib.Bits.{bitAnd, bitXor}
-use borrow.Author.Needs.{needs}
 use Rattle.counting.proofs.Marks.{Stored, stored-none, stored-more}
+use native.Mathlib.Omega.{arith}
+use borrow.Author.Needs.{needs}
 use Rattle.counting.proofs.rows.and_row.Statement.{statement}
 use Rattle.counting.proofs.rows.and_row.Tie as tie
 
 abbrev Inv-loop : tie.InvT-loop
-Inv-loop acc₀ row flip t₀ acc t = (t ≤ length row) × (length acc ≡ length acc₀)
-    × Stored (λ u. bitAnd (getD acc₀ u 0) (bitXor (getD row u 0) flip)) acc₀ t acc
+Inv-loop acc₀ row t₀ acc t = (t ≤ length row) × (length acc ≡ length acc₀) × Stored (λ u. bitAnd (getD acc₀ u 0) (getD row u 0)) acc₀ t acc
 
 abbrev μ-loop : tie.MeasureT-loop
-μ-loop acc₀ row flip t₀ acc t = length row - t
+μ-loop acc₀ row t₀ acc t = length row - t
 
 loop-holds : tie.Need-loop-holds Inv-loop μ-loop
 loop-holds c = (search needs, search needs, stored-none _ (c .args .acc .now))
@@ -50,8 +49,8 @@ loop-again c =
     let a = c .before .before .before .before .args in (
       omega arith,
       simp length-set (now .inv .1),
-      stored-more (λ u. bitAnd (getD (a .acc .now) u 0) (bitXor (getD (a .row .now) u 0) (a .flip))) (a .acc .now) (now .t) (now .acc) _
-          (omega arith) (ap (λ (x : ℕ). bitAnd x (bitXor (getD (a .row .now) (now .t) 0) (a .flip))) (now .inv .2 .1 (now .t) (le-refl (now .t)))) (now .inv .2),
+      stored-more (λ u. bitAnd (getD (a .acc .now) u 0) (getD (a .row .now) u 0)) (a .acc .now) (now .t) (now .acc) _
+          (omega arith) (ap (λ (x : ℕ). bitAnd x (getD (a .row .now) (now .t) 0)) (now .inv .2 .1 (now .t) (le-refl (now .t)))) (now .inv .2),
     )
 
 same-length : tie.Need-same-length Inv-loop μ-loop

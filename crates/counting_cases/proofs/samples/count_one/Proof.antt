@@ -1,7 +1,7 @@
 -- `samples::count_one` is safe: the part of the array that is lent has the length read.
-use borrow.Author.Needs.{needs}
 use native.Mathlib.Omega.{arith}
 use lib.ListN.{length-take}
+use borrow.Author.Needs.{needs}
 use Rattle.counting_cases.proofs.samples.count_one.Statement.{statement}
 use Rattle.counting_cases.proofs.samples.count_one.Tie as tie
 
@@ -18,7 +18,7 @@ slice-aggregate-count-subset : tie.Need-slice-aggregate-count-subset
 slice-aggregate-count-subset c = simp length-take (omega arith)
 
 count-subset-requires : tie.Need-count-subset-requires
-count-subset-requires c κs = simp length-take (omega arith)
+count-subset-requires c κs = search needs
 
 returns : tie.Need-returns
 returns c = search needs

@@ -1,59 +1,43 @@
--- `samples::print_bins` is safe and ends: it asks for bins below 2 ^ k only.
+-- `samples::print_bins` is safe: there is room for 2 ^ 10 bins.
+use mathlib.Core.Path.{_≡_, sym, _∙_}
+use native.Mathlib.Omega.{arith}
+use lib.ListN.{length, take}
+use lib.Seq.{length-take-le}
 use borrow.Author.Needs.{needs}
-use Prim.Native.Nat.{_≤_, _-_, _^_}
-use lib.ListN.{length}
 use Rattle.counting_cases.proofs.samples.print_bins.Statement.{statement}
 use Rattle.counting_cases.proofs.samples.print_bins.Tie as tie
 
-abbrev Inv-loop : tie.InvT-loop
-Inv-loop bits words stride n bins v₀ v = (v ≤ bins) × (bins ≤ 2 ^ length bits)
+-- as many are lent as there are bins
+lent : (d : tie.After-bin-count) → length (take (d .bin-count .result) (d .before .no-bins .result)) ≡ d .bin-count .result
+lent d = length-take-le (d .bin-count .result) (d .before .no-bins .result) (omega arith)
 
-abbrev μ-loop : tie.MeasureT-loop
-μ-loop bits words stride n bins v₀ v = bins - v
+no-bins-requires : tie.Need-no-bins-requires
+no-bins-requires c κs = search needs
 
-cast-bins : tie.Need-cast-bins Inv-loop μ-loop
-cast-bins c = search needs
+bin-count-requires : tie.Need-bin-count-requires
+bin-count-requires c κs = search needs
 
-shl-bins : tie.Need-shl-bins Inv-loop μ-loop
-shl-bins c = search needs
+array-borrow-prefix-bins : tie.Need-array-borrow-prefix-bins
+array-borrow-prefix-bins c = search needs
 
-loop-holds : tie.Need-loop-holds Inv-loop μ-loop
-loop-holds c = search needs
+slice-aggregate-print-counted : tie.Need-slice-aggregate-print-counted
+slice-aggregate-print-counted c = sym (lent (c .before))
 
-multi-eval-neg-requires : tie.Need-multi-eval-neg-requires Inv-loop μ-loop
-multi-eval-neg-requires c κs = search needs
+print-counted-requires : tie.Need-print-counted-requires
+print-counted-requires c κs =
+    let s = c .before .before .before .before .before in
+    ((s .pre .0, lent (c .before) ∙ c .before .bin-count .ensures .0), (s .pre .1 .0, s .pre .1 .1))
 
-cast-print : tie.Need-cast-print Inv-loop μ-loop
-cast-print c = search needs
-
-print-requires : tie.Need-print-requires Inv-loop μ-loop
-print-requires c κs = search needs
-
-add-v : tie.Need-add-v Inv-loop μ-loop
-add-v c = search needs
-
-loop-less : tie.Need-loop-less Inv-loop μ-loop
-loop-less c = search needs
-
-loop-again : tie.Need-loop-again Inv-loop μ-loop
-loop-again c = search needs
-
-returns : tie.Need-returns Inv-loop μ-loop
+returns : tie.Need-returns
 returns c = search needs
 
 pub print-bins-spec : {M : Type 1} → statement M
 print-bins-spec =
     tie.close
     (tie.spec
-    Inv-loop
-    μ-loop
-    cast-bins
-    shl-bins
-    loop-holds
-    multi-eval-neg-requires
-    cast-print
-    print-requires
-    add-v
-    loop-less
-    loop-again
+    no-bins-requires
+    bin-count-requires
+    array-borrow-prefix-bins
+    slice-aggregate-print-counted
+    print-counted-requires
     returns)

@@ -1,6 +1,6 @@
--- `samples::print_counts` is safe: past the tests the rows hold the bits and the blocks.
-use borrow.Author.Needs.{needs}
+-- `samples::print_counts` is safe: past the tests the bits can be counted, and the rows hold them and the blocks.
 use borrow.Author.Tests.{not-false}
+use borrow.Author.Needs.{needs}
 use Rattle.counting_cases.proofs.samples.print_counts.Statement.{statement}
 use Rattle.counting_cases.proofs.samples.print_counts.Tie as tie
 
@@ -28,14 +28,8 @@ end-line-requires-2 c κs = search needs
 returns-2 : tie.Need-returns-2
 returns-2 c = search needs
 
-print-bins-requires : tie.Need-print-bins-requires
-print-bins-requires c κs = (c .before .before .before .before .before .before .pre, (c .before .before .before .rows-in .ensures (not-false _ (c .before .before .if1 .left)), c .before .blocks-in .ensures (not-false _ (c .if2 .left))))
-
-multi-eval-requires : tie.Need-multi-eval-requires
-multi-eval-requires c κs = (c .before .before .before .before .before .before .before .pre, (c .before .before .before .before .rows-in .ensures (not-false _ (c .before .before .before .if1 .left)), c .before .before .blocks-in .ensures (not-false _ (c .before .if2 .left))))
-
-cast-print : tie.Need-cast-print
-cast-print c = search needs
+countable-requires : tie.Need-countable-requires
+countable-requires c κs = search needs
 
 print-requires-3 : tie.Need-print-requires-3
 print-requires-3 c κs = search needs
@@ -45,6 +39,18 @@ end-line-requires-3 c κs = search needs
 
 returns-3 : tie.Need-returns-3
 returns-3 c = search needs
+
+print-bins-requires : tie.Need-print-bins-requires
+print-bins-requires c κs = (c .before .countable .ensures (not-false _ (c .if3 .left)), (c .before .before .before .before .before .rows-in .ensures (not-false _ (c .before .before .before .before .if1 .left)), c .before .before .before .blocks-in .ensures (not-false _ (c .before .before .if2 .left))))
+
+print-all-set-requires : tie.Need-print-all-set-requires
+print-all-set-requires c κs = (c .before .before .countable .ensures (not-false _ (c .before .if3 .left)), (c .before .before .before .before .before .before .rows-in .ensures (not-false _ (c .before .before .before .before .before .if1 .left)), c .before .before .before .before .blocks-in .ensures (not-false _ (c .before .before .before .if2 .left))))
+
+end-line-requires-4 : tie.Need-end-line-requires-4
+end-line-requires-4 c κs = search needs
+
+returns-4 : tie.Need-returns-4
+returns-4 c = search needs
 
 pub print-counts-spec : {M : Type 1} → statement M
 print-counts-spec =
@@ -58,9 +64,11 @@ print-counts-spec =
     print-requires-2
     end-line-requires-2
     returns-2
-    print-bins-requires
-    multi-eval-requires
-    cast-print
+    countable-requires
     print-requires-3
     end-line-requires-3
-    returns-3)
+    returns-3
+    print-bins-requires
+    print-all-set-requires
+    end-line-requires-4
+    returns-4)

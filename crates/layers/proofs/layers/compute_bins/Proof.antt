@@ -7,67 +7,81 @@ use lib.Pow.{pow-pos, pow-mono}
 use Rattle.counting.specs.Sample.{countIn}
 use Rattle.counting.specs.Words.{storedBit}
 use Rattle.counting.proofs.Marks.{shifted-one, stored-lt}
+use Rattle.subsets.proofs.Listing.{bits-below}
+use Rattle.layers.specs.Run.{lastBit}
 use Rattle.layers.proofs.Zeros.{Bin, bin-parts}
+use Rattle.layers.proofs.Running.{own-count}
 use Rattle.layers.proofs.Subtracting.{Entry, entry, last-bin, Known, known-last, known-more, known-start, known-from, difference, all-known}
 use borrow.Author.Needs.{needs}
 use Rattle.layers.proofs.layers.compute_bins.Statement.{statement}
 use Rattle.layers.proofs.layers.compute_bins.Tie as tie
 
 abbrev Inv-loop : tie.InvT-loop
-Inv-loop bits words stride n block-size store bins₀ ranks half all v₀ bins v =
+Inv-loop bits words stride n block-size store counts ranks bins₀ last half all v₀ bins v =
     (v < 2 ^ length bits) × Known (storedBit stride words) n bits bins₀ v bins
 
 abbrev μ-loop : tie.MeasureT-loop
-μ-loop bits words stride n block-size store bins₀ ranks half all v₀ bins v = v
+μ-loop bits words stride n block-size store counts ranks bins₀ last half all v₀ bins v = v
+
+-- ---- the places: the entry, the last bin written, the loop's head
+
+abbrev start : tie.After-slice-known Inv-loop μ-loop → tie.Start Inv-loop μ-loop
+start d = d .before .before .before .before .before .before
+
+abbrev first : tie.After-shared-slice-known7 Inv-loop μ-loop → tie.Start Inv-loop μ-loop
+first d = start (d .before .before)
+
+abbrev head : tie.At-loop Inv-loop μ-loop → tie.Start Inv-loop μ-loop
+head l = first (l .before)
 
 -- half is the number of bins of a subset without one bit
-half-is : (d : tie.After-ranks-without Inv-loop μ-loop)
-    → let k = length (d .before .before .before .before .before .args .bits .now) in 1 * 2 ^ (k - 1) % 2 ^ 64 ≡ 2 ^ (k - 1)
-half-is d =
-    let s = d .before .before .before .before .before in
-    shifted-one 64 (length (s .args .bits .now) - 1) (omega (arith, s .pre .0))
+half-is : (s : tie.Start Inv-loop μ-loop) → let k = length (s .args .bits .now) in 1 * 2 ^ (k - 1) % 2 ^ 64 ≡ 2 ^ (k - 1)
+half-is s = shifted-one 64 (length (s .args .bits .now) - 1) (omega (arith, s .pre .0))
 
 -- the bin of all ones is the last
-all-is : (d : tie.After-ranks-without Inv-loop μ-loop)
-    → let k = length (d .before .before .before .before .before .args .bits .now) in 2 * (1 * 2 ^ (k - 1) % 2 ^ 64) - 1 ≡ 2 ^ k - 1
-all-is d =
-    let s = d .before .before .before .before .before in
-    last-bin (length (s .args .bits .now)) _ (s .pre .0 .0) (half-is d)
+all-is : (s : tie.Start Inv-loop μ-loop) → let k = length (s .args .bits .now) in 2 * (1 * 2 ^ (k - 1) % 2 ^ 64) - 1 ≡ 2 ^ k - 1
+all-is s = last-bin (length (s .args .bits .now)) _ (s .pre .0 .0) (half-is s)
+
+-- the last bit is in the block
+inside : (s : tie.Start Inv-loop μ-loop) → lastBit (s .args .bits .now) < s .args .block-size
+inside s =
+    let b = s .args .bits .now in
+    bits-below (s .args .block-size) (length b) b (s .pre .1 .0) (length b - 1) (omega (arith, s .pre .0))
+
+-- the count of the bin of all ones
+abbrev ones : tie.Start Inv-loop μ-loop → ℕ
+ones s = getD (s .args .counts .now) (lastBit (s .args .bits .now)) 0
 
 -- the bins fit where the loop begins
-room : (d : tie.After-multi-eval Inv-loop μ-loop)
-    → let a = d .before .before .before .before .before .before .args in
-    2 ^ length (a .bits .now) ≤ length (set (a .bins .now) (2 * (1 * 2 ^ (length (a .bits .now) - 1) % 2 ^ 64) - 1) (d .multi-eval .result))
-room d = simp length-set (d .before .before .before .before .before .before .pre .1 .1 .1 .1 .1)
+room : (s : tie.Start Inv-loop μ-loop)
+    → let a = s .args in
+    2 ^ length (a .bits .now) ≤ length (set (a .bins .now) (2 * (1 * 2 ^ (length (a .bits .now) - 1) % 2 ^ 64) - 1) (ones s))
+room s = simp length-set (s .pre .1 .1 .1 .1 .1)
 
--- the last bin is counted
-counted : (d : tie.After-multi-eval Inv-loop μ-loop)
-    → let a = d .before .before .before .before .before .before .args in
+-- the last bin is known
+counted : (s : tie.Start Inv-loop μ-loop)
+    → let a = s .args in
     let all = 2 * (1 * 2 ^ (length (a .bits .now) - 1) % 2 ^ 64) - 1 in
-    Known (storedBit (a .stride) (a .words .now)) (a .n) (a .bits .now) (a .bins .now) all (set (a .bins .now) all (d .multi-eval .result))
-counted d =
-    let s = d .before .before .before .before .before .before in
+    Known (storedBit (a .stride) (a .words .now)) (a .n) (a .bits .now) (a .bins .now) all (set (a .bins .now) all (ones s))
+counted s =
     let a = s .args in
-    known-last (storedBit (a .stride) (a .words .now)) (a .n) (a .bits .now) (a .bins .now) (s .pre .1 .1 .1 .1 .1) _ (d .multi-eval .result) (all-is (d .before)) (d .multi-eval .ensures)
+    known-last (storedBit (a .stride) (a .words .now)) (a .n) (a .bits .now) (a .bins .now) (s .pre .1 .1 .1 .1 .1) _ (ones s) (all-is s)
+    (own-count (storedBit (a .stride) (a .words .now)) (a .n) (a .block-size) (a .bits .now) (a .counts .now) (a .ranks .now) (s .pre .0 .0) (s .pre .1 .0) (s .pre .1 .1 .1 .1 .0))
 
 -- the bin of a turn, in parts
 bin : (d : tie.After-first-zero-bit Inv-loop μ-loop)
-    → let l = d .before .before in
-    Bin (length (l .before .before .before .before .before .before .before .args .bits .now)) (l .loop .v - 1) (d .first-zero-bit .result)
+    → let l = d .before .before in Bin (length (head l .args .bits .now)) (l .loop .v - 1) (d .first-zero-bit .result)
 bin d =
     let l = d .before .before in
     bin-parts _ (l .loop .v - 1) (d .first-zero-bit .result) (omega (arith, l .loop .inv .0, d .before .loop-test .taken)) (d .first-zero-bit .ensures)
 
 -- its first zero bit, as a power
 bit-is : (d : tie.After-first-zero-bit Inv-loop μ-loop) → 1 * 2 ^ d .first-zero-bit .result % 2 ^ 64 ≡ 2 ^ d .first-zero-bit .result
-bit-is d =
-    let s = d .before .before .before .before .before .before .before .before .before in
-    shifted-one 64 (d .first-zero-bit .result) (omega (arith, bin d .inside, s .pre .0))
+bit-is d = shifted-one 64 (d .first-zero-bit .result) (omega (arith, bin d .inside, head (d .before .before) .pre .0))
 
 -- the bin with that bit is among the bins
 with-below : (d : tie.After-first-zero-bit Inv-loop μ-loop)
-    → let l = d .before .before in
-    l .loop .v - 1 + 1 * 2 ^ d .first-zero-bit .result % 2 ^ 64 < 2 ^ length (l .before .before .before .before .before .before .before .args .bits .now)
+    → let l = d .before .before in l .loop .v - 1 + 1 * 2 ^ d .first-zero-bit .result % 2 ^ 64 < 2 ^ length (head l .args .bits .now)
 with-below d = omega (arith, bit-is d, bin d .with-below)
 
 -- and is above this one
@@ -75,48 +89,42 @@ with-above : (d : tie.After-first-zero-bit Inv-loop μ-loop) → let v = d .befo
 with-above d = omega (arith, bit-is d, pow-pos (d .first-zero-bit .result))
 
 -- 2^d is at most 2^20
-small : (d : tie.At-loop Inv-loop μ-loop) → 2 ^ length (d .before .before .before .before .before .before .before .args .bits .now) ≤ 2 ^ 20
-small d = pow-mono (d .before .before .before .before .before .before .before .pre .0 .1)
+small : (l : tie.At-loop Inv-loop μ-loop) → 2 ^ length (head l .args .bits .now) ≤ 2 ^ 20
+small l = pow-mono (head l .pre .0 .1)
 
 -- the entry of the layer below that a turn reads
 read : (d : tie.After-first-zero-bit Inv-loop μ-loop)
     → let l = d .before .before in
-    let a = l .before .before .before .before .before .before .before .args in
+    let a = head l .args in
     let r = d .first-zero-bit .result in
     let with = l .loop .v - 1 + 1 * 2 ^ r % 2 ^ 64 in
     Entry (storedBit (a .stride) (a .words .now)) (a .n) (a .bits .now) (a .store .now)
-    (getD (l .before .before .ranks-without .result) r 0 * (1 * 2 ^ (length (a .bits .now) - 1) % 2 ^ 64) + with / 2) (l .loop .v - 1) with
+    (getD (a .ranks .now) r 0 * (1 * 2 ^ (length (a .bits .now) - 1) % 2 ^ 64) + with / 2) (l .loop .v - 1) with
 read d =
     let l = d .before .before in
-    let s = l .before .before .before .before .before .before .before in
+    let s = head l in
     let a = s .args in
     let r = d .first-zero-bit .result in
     entry (storedBit (a .stride) (a .words .now)) (stored-lt (a .stride) (a .words .now)) (a .n) (a .block-size) (a .bits .now) (a .store .now)
-    (s .pre .1 .0) (s .pre .1 .1 .1 .1 .0) (l .loop .v - 1) r _ _ _ (half-is (l .before .before)) (ap (λ (x : ℕ). l .loop .v - 1 + x) (bit-is d))
-    (l .before .before .ranks-without .ensures r (bin d .inside)) (bin d)
+    (s .pre .1 .0) (s .pre .1 .1 .0) (l .loop .v - 1) r _ _ _ (half-is s) (ap (λ (x : ℕ). l .loop .v - 1 + x) (bit-is d))
+    (s .pre .1 .1 .1 .1 .0 .ranked r (bin d .inside)) (bin d)
 
 -- what it is: the bin of the turn, and the bin with the bit
 splits : (d : tie.After-first-zero-bit Inv-loop μ-loop)
     → let l = d .before .before in
-    let a = l .before .before .before .before .before .before .before .args in
+    let a = head l .args in
     let r = d .first-zero-bit .result in
     let with = l .loop .v - 1 + 1 * 2 ^ r % 2 ^ 64 in
-    getD (a .store .now) (getD (l .before .before .ranks-without .result) r 0 * (1 * 2 ^ (length (a .bits .now) - 1) % 2 ^ 64) + with / 2) 0
+    getD (a .store .now) (getD (a .ranks .now) r 0 * (1 * 2 ^ (length (a .bits .now) - 1) % 2 ^ 64) + with / 2) 0
     ≡ countIn (storedBit (a .stride) (a .words .now)) (a .n) (a .bits .now) (l .loop .v - 1) + getD (l .loop .bins) with 0
 splits d =
     let l = d .before .before in
-    let s = l .before .before .before .before .before .before .before in
-    let a = s .args in
-    difference (storedBit (a .stride) (a .words .now)) (a .n) (a .bits .now) _ (room (l .before)) (l .loop .v) _ (l .loop .bins) (a .store .now) _
+    let a = head l .args in
+    difference (storedBit (a .stride) (a .words .now)) (a .n) (a .bits .now) _ (room (head l)) (l .loop .v) _ (l .loop .bins) (a .store .now) _
     (with-above d) (with-below d) (l .loop .inv .1) (read d)
 
-ranks-without-requires : tie.Need-ranks-without-requires Inv-loop μ-loop
-ranks-without-requires c κs =
-    let s = c .before .before .before .before in
-    ((s .pre .0 .1, s .pre .0 .2), (s .pre .1 .0, s .pre .1 .1 .1 .1 .0 .few))
-
-sub-half : tie.Need-sub-half Inv-loop μ-loop
-sub-half c = search needs
+sub-last : tie.Need-sub-last Inv-loop μ-loop
+sub-last c = search needs
 
 cast-half : tie.Need-cast-half Inv-loop μ-loop
 cast-half c = search needs
@@ -128,32 +136,38 @@ shl-half : tie.Need-shl-half Inv-loop μ-loop
 shl-half c = search needs
 
 mul-all : tie.Need-mul-all Inv-loop μ-loop
-mul-all c = omega (arith, half-is c, pow-mono (let h : length (c .before .before .before .before .before .args .bits .now) - 1 ≤ 19 = omega (arith, c .before .before .before .before .before .pre .0) in h))
+mul-all c = omega (arith, half-is (start c), pow-mono (let h : length (start c .args .bits .now) - 1 ≤ 19 = omega (arith, start c .pre .0) in h))
 
 sub-all : tie.Need-sub-all Inv-loop μ-loop
-sub-all c = omega (arith, half-is c, pow-pos (length (c .before .before .before .before .before .args .bits .now) - 1))
-
-multi-eval-requires : tie.Need-multi-eval-requires Inv-loop μ-loop
-multi-eval-requires c κs =
-    let s = c .before .before .before .before .before in
-    (s .pre .0 .1, (s .pre .1 .1 .0, s .pre .1 .1 .1 .0))
+sub-all c = omega (arith, half-is (start c), pow-pos (length (start c .args .bits .now) - 1))
 
 mul-bins : tie.Need-mul-bins Inv-loop μ-loop
-mul-bins c =
-    let s = c .before .before .before .before .before .before in
-    omega (arith, all-is (c .before), pow-mono (s .pre .0 .1))
+mul-bins c = search needs
+
+shared-slice-read-bins : tie.Need-shared-slice-read-bins Inv-loop μ-loop
+shared-slice-read-bins c = search needs
+
+cast-bins : tie.Need-cast-bins Inv-loop μ-loop
+cast-bins c = omega (arith, c .shared-slice-known6 .given (length (start (c .before) .args .bits .now) - 1))
+
+mul-bins-2 : tie.Need-mul-bins-2 Inv-loop μ-loop
+mul-bins-2 c = omega (arith, c .shared-slice-known6 .given (length (start (c .before) .args .bits .now) - 1))
+
+shared-slice-read-bins-2 : tie.Need-shared-slice-read-bins-2 Inv-loop μ-loop
+shared-slice-read-bins-2 c = omega (arith, inside (first c), first c .pre .1 .1 .1 .0 .bits)
+
+mul-bins-3 : tie.Need-mul-bins-3 Inv-loop μ-loop
+mul-bins-3 c = omega (arith, all-is (first c), pow-mono (first c .pre .0 .1))
 
 slice-write-bins : tie.Need-slice-write-bins Inv-loop μ-loop
-slice-write-bins c =
-    let s = c .before .before .before .before .before .before in
-    omega (arith, all-is (c .before), s .pre .1 .1 .1 .1 .1, pow-pos (length (s .args .bits .now)))
+slice-write-bins c = omega (arith, all-is (first c), first c .pre .1 .1 .1 .1 .1, pow-pos (length (first c .args .bits .now)))
 
 loop-holds : tie.Need-loop-holds Inv-loop μ-loop
 loop-holds c =
-    let s = c .before .before .before .before .before .before in
+    let s = first c in
     let a = s .args in (
-      omega (arith, all-is (c .before), pow-pos (length (a .bits .now))),
-      known-start (storedBit (a .stride) (a .words .now)) (a .n) (a .bits .now) (a .bins .now) (s .pre .1 .1 .1 .1 .1) _ _ (counted c),
+      omega (arith, all-is s, pow-pos (length (a .bits .now))),
+      known-start (storedBit (a .stride) (a .words .now)) (a .n) (a .bits .now) (a .bins .now) (s .pre .1 .1 .1 .1 .1) _ _ (counted s),
     )
 
 sub-v : tie.Need-sub-v Inv-loop μ-loop
@@ -166,64 +180,64 @@ first-zero-bit-requires : tie.Need-first-zero-bit-requires Inv-loop μ-loop
 first-zero-bit-requires c κs = search needs
 
 cast-with : tie.Need-cast-with Inv-loop μ-loop
-cast-with c = omega (arith, bin c .inside, c .before .before .before .before .before .before .before .before .before .pre .0)
+cast-with c = omega (arith, bin c .inside, head (c .before .before) .pre .0)
 
 shl-with : tie.Need-shl-with Inv-loop μ-loop
-shl-with c = omega (arith, bin c .inside, c .before .before .before .before .before .before .before .before .before .pre .0)
+shl-with c = omega (arith, bin c .inside, head (c .before .before) .pre .0)
 
 add-with : tie.Need-add-with Inv-loop μ-loop
 add-with c = omega (arith, with-below c, small (c .before .before))
 
 cast-previous : tie.Need-cast-previous Inv-loop μ-loop
-cast-previous c = omega (arith, bin c .inside, c .before .before .before .before .before .before .before .before .before .pre .0)
+cast-previous c = omega (arith, bin c .inside, head (c .before .before) .pre .0)
 
 mul-previous : tie.Need-mul-previous Inv-loop μ-loop
-mul-previous c = omega (arith, bin c .inside, c .before .before .before .before .before .before .before .before .before .pre .0)
-
-array-read-previous : tie.Need-array-read-previous Inv-loop μ-loop
-array-read-previous c = omega (arith, bin c .inside, c .before .before .before .before .before .before .before .before .before .pre .0)
-
-mul-previous-2 : tie.Need-mul-previous-2 Inv-loop μ-loop
-mul-previous-2 c = omega (arith, read c .inside, c .before .before .before .before .before .before .before .before .before .good)
-
-add-previous : tie.Need-add-previous Inv-loop μ-loop
-add-previous c = omega (arith, read c .inside, c .before .before .before .before .before .before .before .before .before .good)
-
-mul-previous-3 : tie.Need-mul-previous-3 Inv-loop μ-loop
-mul-previous-3 c = omega (arith, read c .inside, c .before .before .before .before .before .before .before .before .before .good)
+mul-previous c = omega (arith, bin c .inside, head (c .before .before) .pre .0)
 
 shared-slice-read-previous : tie.Need-shared-slice-read-previous Inv-loop μ-loop
-shared-slice-read-previous c = omega (arith, read (c .before) .inside)
+shared-slice-read-previous c = omega (arith, bin (c .before) .inside, head (c .before .before .before) .pre .1 .1 .1 .0 .chosen)
 
-mul-bins-2 : tie.Need-mul-bins-2 Inv-loop μ-loop
-mul-bins-2 c = omega (arith, with-below (c .before), small (c .before .before .before))
+mul-previous-2 : tie.Need-mul-previous-2 Inv-loop μ-loop
+mul-previous-2 c = omega (arith, read (c .before) .inside, head (c .before .before .before) .good)
+
+add-previous : tie.Need-add-previous Inv-loop μ-loop
+add-previous c = omega (arith, read (c .before) .inside, head (c .before .before .before) .good)
+
+mul-previous-3 : tie.Need-mul-previous-3 Inv-loop μ-loop
+mul-previous-3 c = omega (arith, read (c .before) .inside, head (c .before .before .before) .good)
+
+shared-slice-read-previous-2 : tie.Need-shared-slice-read-previous-2 Inv-loop μ-loop
+shared-slice-read-previous-2 c = omega (arith, read (c .before .before) .inside)
+
+mul-bins-4 : tie.Need-mul-bins-4 Inv-loop μ-loop
+mul-bins-4 c = omega (arith, with-below (c .before .before), small (c .before .before .before .before))
 
 slice-read-bins : tie.Need-slice-read-bins Inv-loop μ-loop
 slice-read-bins c =
-    let d = c .before .before in
-    omega (arith, with-below d, d .before .before .loop .inv .1 .size, room (d .before .before .before))
+    let d = c .before .before .before in
+    omega (arith, with-below d, d .before .before .loop .inv .1 .size, room (head (d .before .before)))
 
 sub-bins : tie.Need-sub-bins Inv-loop μ-loop
-sub-bins c = omega (arith, splits (c .before .before))
+sub-bins c = omega (arith, splits (c .before .before .before))
 
-mul-bins-3 : tie.Need-mul-bins-3 Inv-loop μ-loop
-mul-bins-3 c = omega (arith, with-below (c .before .before), small (c .before .before .before .before))
+mul-bins-5 : tie.Need-mul-bins-5 Inv-loop μ-loop
+mul-bins-5 c = omega (arith, with-below (c .before .before .before), small (c .before .before .before .before .before))
 
 slice-write-bins-2 : tie.Need-slice-write-bins-2 Inv-loop μ-loop
 slice-write-bins-2 c =
-    let d = c .before .before in
-    omega (arith, d .before .before .loop .inv .0, d .before .before .loop .inv .1 .size, room (d .before .before .before))
+    let d = c .before .before .before in
+    omega (arith, d .before .before .loop .inv .0, d .before .before .loop .inv .1 .size, room (head (d .before .before)))
 
 loop-less : tie.Need-loop-less Inv-loop μ-loop
 loop-less c = search needs
 
 loop-again : tie.Need-loop-again Inv-loop μ-loop
 loop-again c =
-    let d = c .before .before in
+    let d = c .before .before .before in
     let l = d .before .before in
-    let a = l .before .before .before .before .before .before .before .args in (
+    let a = head l .args in (
       omega (arith, l .loop .inv .0),
-      known-more (storedBit (a .stride) (a .words .now)) (a .n) (a .bits .now) _ (room (l .before)) (l .loop .v) (l .loop .bins) _
+      known-more (storedBit (a .stride) (a .words .now)) (a .n) (a .bits .now) _ (room (head l)) (l .loop .v) (l .loop .bins) _
           (d .before .loop-test .taken) (l .loop .inv .0) (omega (arith, splits d)) (l .loop .inv .1),
     )
 
@@ -233,11 +247,10 @@ same-length c = c .before .loop .inv .1 .size ∙ simp length-set
 returns : tie.Need-returns Inv-loop μ-loop
 returns c =
     let l = c .before in
-    let s = l .before .before .before .before .before .before .before in
+    let s = head l in
     let a = s .args in
-    let first = counted (l .before) in
     all-known (storedBit (a .stride) (a .words .now)) (a .n) (a .bits .now) (a .bins .now) (s .pre .1 .1 .1 .1 .1) (l .loop .v) (l .loop .bins) (omega arith)
-    (known-from (storedBit (a .stride) (a .words .now)) (a .n) (a .bits .now) (a .bins .now) (s .pre .1 .1 .1 .1 .1) _ (l .loop .v) _ (l .loop .bins) first (l .loop .inv .1))
+    (known-from (storedBit (a .stride) (a .words .now)) (a .n) (a .bits .now) (a .bins .now) (s .pre .1 .1 .1 .1 .1) _ (l .loop .v) _ (l .loop .bins) (counted s) (l .loop .inv .1))
 
 pub compute-bins-spec : {M : Type 1} → statement M
 compute-bins-spec =
@@ -245,15 +258,18 @@ compute-bins-spec =
     (tie.spec
     Inv-loop
     μ-loop
-    ranks-without-requires
-    sub-half
+    sub-last
     cast-half
     cast-half-2
     shl-half
     mul-all
     sub-all
-    multi-eval-requires
     mul-bins
+    shared-slice-read-bins
+    cast-bins
+    mul-bins-2
+    shared-slice-read-bins-2
+    mul-bins-3
     slice-write-bins
     loop-holds
     sub-v
@@ -264,15 +280,15 @@ compute-bins-spec =
     add-with
     cast-previous
     mul-previous
-    array-read-previous
+    shared-slice-read-previous
     mul-previous-2
     add-previous
     mul-previous-3
-    shared-slice-read-previous
-    mul-bins-2
+    shared-slice-read-previous-2
+    mul-bins-4
     slice-read-bins
     sub-bins
-    mul-bins-3
+    mul-bins-5
     slice-write-bins-2
     loop-less
     loop-again

@@ -3,7 +3,8 @@ use Prim.Native.Nat.{_-_, _≤_, max}
 use mathlib.Core.Path.{_≡_, _∙_}
 use mathlib.Core.Logic.{⊎-elim}
 use native.Mathlib.Omega.{arith}
-use Rattle.layers.specs.Size.{upTo, largestLayer}
+use Rattle.subsets.specs.Choose.{upTo}
+use Rattle.layers.specs.Size.{largestLayer}
 use Rattle.layers.proofs.Sizing.{first-layer, larger, not-larger, all-layers}
 use borrow.Author.Needs.{needs}
 use Rattle.layers.proofs.size.store_size.Statement.{statement}

@@ -1,42 +1,63 @@
 -- `candidate::fill_bins` meets its contract: every bit's row lies within the words, and a layer that is lent is the one below.
+use Prim.Native.Nat.{ℕ, _<_}
+use mathlib.Core.Path.{_≡_, sym, ap, _∙_}
+use mathlib.Core.List.{List, _++_}
 use native.Mathlib.Omega.{arith}
-use lib.ListN.{length}
-use Prim.Native.Nat.{_<_}
+use lib.ListN.{length, take, drop}
+use lib.Seq.{length-take-le}
 use borrow.Author.Needs.{needs}
+use Rattle.counting.specs.Sample.{countsOf}
+use Rattle.counting.specs.Words.{storedBit}
 use Rattle.layers.proofs.Filling.{rows-in}
 use Rattle.searching.proofs.candidate.fill_bins.Statement.{statement}
 use Rattle.searching.proofs.candidate.fill_bins.Tie as tie
 
-count-bins-requires : tie.Need-count-bins-requires
-count-bins-requires c κs =
-    let s = c .before .before .before .before .before .before in
+abbrev start : tie.After-slice-known → tie.Start
+start c = c .before .before .before .before .before .before
+
+-- the part of the bin buffer that is lent
+part : (c : tie.After-bin-count) → let a = start (c .before .before) .args in length (take (c .bin-count .result) (a .bins .now)) ≡ c .bin-count .result
+part c =
+    let s = start (c .before .before) in
+    length-take-le (c .bin-count .result) (s .args .bins .now) (omega (arith, c .bin-count .ensures, s .pre .1 .1 .1 .1))
+
+bin-count-requires : tie.Need-bin-count-requires
+bin-count-requires c κs = search needs
+
+slice-relend-prefix-multi-eval-neg : tie.Need-slice-relend-prefix-multi-eval-neg
+slice-relend-prefix-multi-eval-neg c = search needs
+
+slice-aggregate-multi-eval-neg : tie.Need-slice-aggregate-multi-eval-neg
+slice-aggregate-multi-eval-neg c = sym (part (c .before))
+
+multi-eval-neg-requires : tie.Need-multi-eval-neg-requires
+multi-eval-neg-requires c κs =
+    let m = c .before in
+    let s = start (m .before .before) in
     let a = s .args in (
-      (s .pre .0 .width, s .pre .1 .1 .1),
+      (s .pre .0 .some, s .pre .0 .width, part m ∙ m .bin-count .ensures),
       (rows-in (a .block-size) (length (a .bits .now)) (a .stride) (a .words .now) (a .bits .now) (s .pre .1 .0) (s .pre .0 .rows), s .pre .0 .blocks),
     )
 
 compute-bins-requires : tie.Need-compute-bins-requires
 compute-bins-requires c κs =
     let e = c .before in
-    let s = e .before .before .before .before .before in
-    let a = s .args in
-    let some : 0 < length (a .layer .now) = omega arith in
-    let small : a .block-size < 4294967296 = omega (arith, s .pre .0 .size) in (
-      (s .pre .0 .some, s .pre .0 .width, small),
-      (
-        s .pre .1 .0,
-        (
-          rows-in (a .block-size) (length (a .bits .now)) (a .stride) (a .words .now) (a .bits .now) (s .pre .1 .0) (s .pre .0 .rows),
-          (s .pre .0 .blocks, (s .pre .1 .1 .0 .holds some, s .pre .1 .1 .1)),
-        ),
-      ),
+    let s = start (e .before) in
+    let some : 0 < length (s .args .layer .now) = omega (arith, e .if1 .left) in (
+      (s .pre .0 .some, s .pre .0 .width),
+      (s .pre .1 .0, (s .pre .1 .1 .0 .holds some, (s .pre .1 .1 .1 .0 .space some, (s .pre .1 .1 .1 .0 .run some, s .pre .1 .1 .1 .1)))),
     )
 
 same-length : tie.Need-same-length
 same-length c = search needs
 
 returns : tie.Need-returns
-returns c = search needs
+returns c =
+    let e = c .before .before in
+    let m = e .before .before in
+    let a = start (m .before .before) .args in
+    ap (λ (l : List ℕ). l ++ drop (m .bin-count .result) (a .bins .now)) (e .multi-eval-neg .ensures)
+    ∙ ap (λ (x : ℕ). countsOf (storedBit (a .stride) (a .words .now)) (a .n) (a .bits .now) ++ drop x (a .bins .now)) (m .bin-count .ensures)
 
 same-length-2 : tie.Need-same-length-2
 same-length-2 c = search needs
@@ -45,4 +66,15 @@ returns-2 : tie.Need-returns-2
 returns-2 c = search needs
 
 pub fill-bins-spec : {M : Type 1} → statement M
-fill-bins-spec = tie.close (tie.spec count-bins-requires compute-bins-requires same-length returns same-length-2 returns-2)
+fill-bins-spec =
+    tie.close
+    (tie.spec
+    bin-count-requires
+    slice-relend-prefix-multi-eval-neg
+    slice-aggregate-multi-eval-neg
+    multi-eval-neg-requires
+    compute-bins-requires
+    same-length
+    returns
+    same-length-2
+    returns-2)

@@ -16,7 +16,9 @@ use Rattle.searching.proofs.candidate.rank_candidate.Statement.{stateme
 use Rattle.searching.proofs.candidate.rank_candidate.Tie as tie
 
 fill-bins-requires : tie.Need-fill-bins-requires
-fill-bins-requires c κs = search needs
+fill-bins-requires c κs =
+    let s = c .before .before .before .before .before .before .before .before .before in
+    (s .pre .0, (s .pre .1 .0, (s .pre .1 .1 .0, (s .pre .1 .1 .1 .0, s .pre .1 .1 .1 .1 .0 .0))))
 
 cast-from-bins : tie.Need-cast-from-bins
 cast-from-bins c = search needs
@@ -25,24 +27,24 @@ cast-from-bins c = search needs
 abbrev counts : tie.Start → List ℕ
 counts c = countsOf (storedBit (c .args .stride) (c .args .words .now)) (c .args .n) (c .args .bits .now)
 
-first-are : (c : tie.After-fill-bins) → let s = c .before .before .before .before .before .before .before .before in
-    take (2 ^ length (s .args .bits .now)) (c .fill-bins .last .1 .1 .1 .1 .1 .1 .0) ≡ counts s
+first-are : (c : tie.After-fill-bins) → let s = c .before .before .before .before .before .before .before .before .before .before in
+    take (2 ^ length (s .args .bits .now)) (c .fill-bins .last .1 .1 .1 .1 .1 .1 .1 .1 .0) ≡ counts s
 first-are c =
-    let a = c .before .before .before .before .before .before .before .before .args in
+    let a = c .before .before .before .before .before .before .before .before .before .before .args in
     ap (take (2 ^ length (a .bits .now))) (c .fill-bins .ensures)
     ∙ replaced-first (2 ^ length (a .bits .now)) _ (a .bins .now) (length-counts (storedBit (a .stride) (a .words .now)) (a .n) (a .bits .now))
 
 from-bins-requires : tie.Need-from-bins-requires
 from-bins-requires c κs =
     let at-fill = c .before .before .before .before in
-    let s = at-fill .before .before .before .before .before .before .before .before in
+    let s = at-fill .before .before .before .before .before .before .before .before .before .before in
     let a = s .args in
-    let long : 2 ^ length (a .bits .now) ≤ length (at-fill .fill-bins .last .1 .1 .1 .1 .1 .1 .0) = omega (arith, s .pre .1 .1 .1 .0, at-fill .fill-bins .kept) in (
+    let long : 2 ^ length (a .bits .now) ≤ length (at-fill .fill-bins .last .1 .1 .1 .1 .1 .1 .1 .1 .0) = omega (arith, s .pre .1 .1 .1 .1 .0, at-fill .fill-bins .kept) in (
       s .pre .0 .width,
       long,
-      s .pre .1 .1 .1 .0 .1,
+      s .pre .1 .1 .1 .1 .0 .1,
       ap total (first-are at-fill) ∙ counts-add-up (a .n) (storedBit (a .stride) (a .words .now)) (stored-lt (a .stride) (a .words .now)) (a .bits .now),
-      s .pre .1 .1 .1 .1,
+      s .pre .1 .1 .1 .1 .1,
     )
 
 same-length : tie.Need-same-length
@@ -55,7 +57,7 @@ returns : tie.Need-returns
 returns c =
     let at-from = c .before .before in
     let at-fill = at-from .before .before .before .before .before in
-    let a = at-fill .before .before .before .before .before .before .before .before .args in
+    let a = at-fill .before .before .before .before .before .before .before .before .before .before .args in
     let are = first-are at-fill in (
       at-from .from-bins .ensures .0 ∙ ap (scoreOf (a .n) (length (a .bits .now))) are,
       (

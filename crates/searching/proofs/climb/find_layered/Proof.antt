@@ -1,30 +1,28 @@
--- `climb::find_layered` meets its contract: layer 0 is one entry, n, and layer 1 is made from it.
-use mathlib.Core.Path.{_≡_, _∙_}
-use mathlib.Core.List.{[], _∷_}
-use Prim.Native.Nat.{_+_, _-_, _≤_, _<_, max}
+-- `climb::find_layered` meets its contract: the room for a run is long enough.
 use native.Mathlib.Omega.{arith}
-use lib.ListN.{length}
-use Rattle.counting.specs.Words.{storedBit}
-use Rattle.layers.proofs.Filling.{empty-layer}
-use Rattle.searching.proofs.Climbing.{below, made-first, past}
 use borrow.Author.Needs.{needs}
 use Rattle.searching.proofs.climb.find_layered.Statement.{statement}
 use Rattle.searching.proofs.climb.find_layered.Tie as tie
 
-cast-t11 : tie.Need-cast-t11
-cast-t11 c = search needs
+no-counts-requires : tie.Need-no-counts-requires
+no-counts-requires c κs = search needs
 
-slice-aggregate-find : tie.Need-slice-aggregate-find
-slice-aggregate-find c = search needs
+no-ranks-requires : tie.Need-no-ranks-requires
+no-ranks-requires c κs = search needs
 
-find-requires : tie.Need-find-requires
-find-requires c κs =
-    let e = c .before .before .before in
-    let s = e .before .before .before .before .before .before in
-    let a = s .args in
-    let bit = storedBit (a .stride) (a .words .now) in
-    let one : 0 + 1 ≡ a .k = omega (arith, e .if1 .taken) in
-    (s .pre .0, (below bit (a .n) (a .block-size) 0 (a .k) (a .n ∷ []) one (empty-layer bit (a .n) (a .block-size)), s .pre .1 .1))
+slice-aggregate-find-in-run : tie.Need-slice-aggregate-find-in-run
+slice-aggregate-find-in-run c = search needs
+
+slice-aggregate-find-in-run-2 : tie.Need-slice-aggregate-find-in-run-2
+slice-aggregate-find-in-run-2 c = search needs
+
+find-in-run-requires : tie.Need-find-in-run-requires
+find-in-run-requires c κs =
+    let n = c .before .before .before .before .before .before in
+    let s = n .before .before .before .before .before .before .before in (
+      record { bits = omega (arith, n .before .no-counts .ensures, s .pre .0 .size); chosen = omega (arith, n .no-ranks .ensures, s .pre .0 .width) },
+      (s .pre .0, (s .pre .1 .0, s .pre .1 .1)),
+    )
 
 same-length : tie.Need-same-length
 same-length c = search needs
@@ -32,91 +30,26 @@ same-length c = search needs
 same-length-2 : tie.Need-same-length-2
 same-length-2 c = search needs
 
-returns : tie.Need-returns
-returns c = search needs
-
-slice-aggregate-fill-layer : tie.Need-slice-aggregate-fill-layer
-slice-aggregate-fill-layer c = search needs
-
-fill-layer-requires : tie.Need-fill-layer-requires
-fill-layer-requires c κs =
-    let s = c .before .before .before .before .before .before .before .before in
-    let a = s .args in
-    let one : 1 ≤ 1 = omega arith in
-    let wide : 1 ≤ max 1 (a .k - 1) = omega arith in
-    let twenty : 1 ≤ 20 = omega arith in
-    let inside : 1 ≤ a .block-size = omega (arith, s .pre .0) in
-    let small : a .block-size < 4294967296 = omega (arith, s .pre .0) in (
-      (one, twenty, inside, small),
-      ((s .pre .0 .rows, s .pre .0 .blocks), (empty-layer (storedBit (a .stride) (a .words .now)) (a .n) (a .block-size), s .pre .1 .0 1 one wide .first)),
-    )
-
-climb-requires : tie.Need-climb-requires
-climb-requires c κs =
-    let f = c .before .before .before .before .before .before in
-    let s = f .before .before .before .before .before .before .before .before .before in
-    let a = s .args in
-    let one : 1 ≤ 1 = omega arith in
-    let wide : 1 ≤ max 1 (a .k - 1) = omega arith in
-    let more : 1 < a .k = omega (arith, s .pre .0) in
-    let first = f .fill-layer .last .1 .1 .1 .1 .1 .1 .0 in
-    let kept : length first ≡ length (a .first .now) = f .fill-layer .kept .1 .1 .1 .1 .1 .1 .0 in (
-      (one, more),
-      (
-        s .pre .0,
-        (
-          rw kept (s .pre .1 .0),
-          (
-            made-first (a .block-size) (a .k) (length (a .first .now)) (length (a .second .now)) 1 (s .pre .1 .0) one wide (storedBit (a .stride) (a .words .now)) (a .n) first kept (f .fill-layer .ensures .0),
-            s .pre .1 .1,
-          ),
-        ),
-      ),
-    )
-
 same-length-3 : tie.Need-same-length-3
 same-length-3 c = search needs
 
 same-length-4 : tie.Need-same-length-4
 same-length-4 c = search needs
 
-same-length-5 : tie.Need-same-length-5
-same-length-5 c = search needs
-
-same-length-6 : tie.Need-same-length-6
-same-length-6 c = search needs
-
-returns-2 : tie.Need-returns-2
-returns-2 c =
-    let g = c .before .before .before .before .before .before .before .before in
-    let f = g .before .before .before .before .before .before .before in
-    let s = f .before .before .before .before .before .before .before .before .before in
-    let a = s .args in
-    let one : 1 ≤ 1 = omega arith in
-    let wide : 1 ≤ max 1 (a .k - 1) = omega arith in (
-      g .climb .ensures .0,
-      (
-        g .climb .ensures .1 .0
-            ∙ past (a .block-size) (a .k) (length (a .first .now)) (length (a .second .now)) 1 (s .pre .1 .0) one wide (a .first .now) (f .fill-layer .last .1 .1 .1 .1 .1 .1 .0) (f .fill-layer .ensures .1),
-        g .climb .ensures .1 .1,
-      ),
-    )
+returns : tie.Need-returns
+returns c = search needs
 
 pub find-layered-spec : {M : Type 1} → statement M
 find-layered-spec =
     tie.close
     (tie.spec
-    cast-t11
-    slice-aggregate-find
-    find-requires
+    no-counts-requires
+    no-ranks-requires
+    slice-aggregate-find-in-run
+    slice-aggregate-find-in-run-2
+    find-in-run-requires
     same-length
     same-length-2
-    returns
-    slice-aggregate-fill-layer
-    fill-layer-requires
-    climb-requires
     same-length-3
     same-length-4
-    same-length-5
-    same-length-6
-    returns-2)
+    returns)

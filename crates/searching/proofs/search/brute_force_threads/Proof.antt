@@ -44,12 +44,18 @@ div-find c = omega (arith, valid-facts _ (free (c .before) .search .usable .vali
 slice-aggregate-find : tie.Need-slice-aggregate-find
 slice-aggregate-find c = search needs
 
+slice-aggregate-find-2 : tie.Need-slice-aggregate-find-2
+slice-aggregate-find-2 c = search needs
+
+slice-aggregate-find-3 : tie.Need-slice-aggregate-find-3
+slice-aggregate-find-3 c = search needs
+
 find-requires : tie.Need-find-requires
 find-requires c κs =
-    let e = c .before .before .before .before in
+    let e = c .before .before .before .before .before .before in
     let a = start e .args in
     let f = free e in
-    (searchable (a .sampler) (length (a .words .now)) (a .k) (f .search), (record { holds = λ h. absurd (omega arith) }, f .room))
+    (searchable (a .sampler) (length (a .words .now)) (a .k) (f .search), (record { holds = λ h. absurd (omega arith) }, (λ h. absurd (omega arith), f .room)))
 
 same-length : tie.Need-same-length
 same-length c = search needs
@@ -59,8 +65,8 @@ same-length-2 c = search needs
 
 returns-2 : tie.Need-returns-2
 returns-2 c =
-    let at-find = c .before .before .before .before in
-    let e = at-find .before .before .before .before .before in
+    let at-find = c .before .before .before .before .before .before in
+    let e = at-find .before .before .before .before .before .before .before in
     let a = start e .args in
     search-found _ (a .sampler) (a .words .now) (a .k) (a .bins .now) (a .order .now) (at-find .find .result) _ _ (none e) (at-find .find .ensures)
 
@@ -74,6 +80,8 @@ brute-force-threads-spec =
     div-n
     div-find
     slice-aggregate-find
+    slice-aggregate-find-2
+    slice-aggregate-find-3
     find-requires
     same-length
     same-length-2

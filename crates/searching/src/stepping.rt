@@ -1,0 +1,58 @@
+// From candidate to candidate: the next subset and, where a layer is lent, its run.
+ghost use mathlib.Core.Path.{_≡_};
+ghost use mathlib.Core.Bool.{true};
+ghost use lib.ListN.{length, take};
+ghost use Rattle.counting.specs.Words.{storedBit};
+ghost use Rattle.subsets.specs.Stepping.{Stepped};
+ghost use Rattle.subsets.specs.Subsets.{Subset};
+ghost use Rattle.searching.specs.Pass.{Searchable, LayerBelow, Space, Ready};
+use layers::run::advance;
+use layers::run::begin_run;
+use subsets::stepping::successor;
+
+// The run of the bits where a layer is lent; where every bin is counted none is needed.
+pub fn begin(
+    bits: &[u32],
+    words: &[u64],
+    stride: usize,
+    n: usize,
+    block_size: usize,
+    layer: &[u32],
+    counts: &mut [u32],
+    ranks: &mut [usize],
+)
+    requires { ⌜ Searchable (length (now words)) stride n «block_size» (length (now bits)) ⌝ }
+    requires { ⌜ Subset «block_size» (length (now bits)) (now bits) ⌝ }
+    requires { ⌜ LayerBelow (storedBit stride (now words)) n «block_size» (length (now bits)) (now layer) ⌝ }
+    requires { ⌜ Space «block_size» (length (now bits)) (now layer) (now counts) (now ranks) ⌝ }
+    ensures { λ _. ⌜ Ready (storedBit stride (now (words .entry))) n «block_size» (now (layer .entry)) (now (bits .entry)) (now (counts .exit)) (now (ranks .exit)) ⌝ }
+{
+    if layer.len() > 0 {
+        begin_run(bits, words, stride, n, block_size, counts, ranks);
+    }
+}
+
+// Steps to the next subset, and its run with it where one is needed; false where there is none.
+pub fn step(
+    bits: &mut [u32],
+    k: usize,
+    words: &[u64],
+    stride: usize,
+    n: usize,
+    block_size: usize,
+    layer: &[u32],
+    counts: &mut [u32],
+    ranks: &mut [usize],
+) -> bool
+    requires { ⌜ Searchable (length (now words)) stride n «block_size» k ⌝ }
+    requires { ⌜ Subset «block_size» k (take k (now bits)) ⌝ }
+    requires { ⌜ LayerBelow (storedBit stride (now words)) n «block_size» k (now layer) ⌝ }
+    requires { ⌜ Ready (storedBit stride (now words)) n «block_size» (now layer) (take k (now bits)) (now counts) (now ranks) ⌝ }
+    ensures { λ r. ⌜ Stepped «block_size» k (now (bits .entry)) r (now (bits .exit)) ⌝ }
+    ensures { λ r. ⌜ (r ≡ true → Ready (storedBit stride (now (words .entry))) n «block_size» (now (layer .entry)) (take k (now (bits .exit))) (now (counts .exit)) (now (ranks .exit))) ⌝ }
+{
+    if layer.len() == 0 {
+        return successor(bits, k, block_size);
+    }
+    advance(bits, k, words, stride, n, block_size, counts, ranks)
+}
