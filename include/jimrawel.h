@@ -5,23 +5,24 @@
 
    Rules for all calls
 
-   - A slice is two arguments: the address of its first entry and its number of entries. All entries have to be readable, and
-     writable where the address is not const. Two slices of one call may overlap only where both are const. An empty slice may
-     have any address that is not null. Nothing is kept after a call returns, nothing is allocated, nothing is shared between
-     calls: calls with different slices may run at the same time.
+   - A slice is two arguments: the address of its first entry and its number of entries. The address has to be aligned for its
+     type, and all entries have to be readable, and writable where the address is not const. Two slices of one call may overlap
+     only where both are const. An empty slice may have any aligned address that is not null. Nothing is kept after a call
+     returns, nothing is allocated, nothing is shared between calls: calls may run at the same time where no slice that one of
+     them writes overlaps a slice of the other.
    - Each call takes any numbers at all. What it cannot take it refuses: the result is the number of the first refusal that
      applies, in the order given at the call, and 0 where there is none (enum jimrawel_refusal).
    - Where a call is refused, every lent entry is as it was lent, but for two things: a record that the call writes (a sampler by
-     jimrawel_start, a finding, a rank, an evaluation, two lengths, a plan; not a ranking) then has every number 0, and after 13 and 14 the first 2^width entries
-     of the scratch are 0. Beside 25 nothing at all is written.
+     jimrawel_start, a finding, a rank, an evaluation, two lengths, a plan; not a ranking) then has every number 0, and after 13
+     and 14 the first 2^width entries of the scratch are 0. Beside 25 nothing at all is written.
    - Entries past those that a call writes are as lent.
 
    Records
 
    - A sampler is 3 numbers: the block size B in bits, the number of lent words, and T, the bytes taken so far.
      Its words are lent anew with every call; no one else may change them, or the sampler, from start to the last search.
-   - A finding is 24 numbers: the block size, the width k, the division, the bits of its score z as a double, and 20 bit entries, of which
-     the first k count and the others are 0. Beside it stands its bin order in a buffer of its own.
+   - A finding is 24 numbers: the block size, the width k, the division, the bits of its score z as a double, and 20 bit entries, of
+     which the first k count; a search leaves the others 0, and no answer depends on them. Beside it stands its bin order in a buffer of its own.
    - Bit b of a block is bit 7 - b % 8 of its byte b / 8. The bin of a block is the sum of 2^i over the i whose bits[i] is set in it. */
 
 #ifndef JIMRAWEL_H
@@ -105,7 +106,7 @@ uint32_t jimrawel_brute_force(
 
 /* The rank of a set of bits: how many sets of as many bits come before it in lexicographic order.
      bits  the bits, all of them; their number is the width.
-     rank  not null; the rank, or 0 where refused.
+     rank  one number, apart from the bits; the rank, or 0 where refused.
    Refusals: 1, 2, 3, 9, 10, 12. */
 uint32_t jimrawel_compute_index(size_t block_size, const uint32_t *bits, size_t bits_len, size_t *rank);
 

@@ -1,47 +1,31 @@
-//! One drawn case of any kind.
+//! What is asked of every drawn case.
 
-use crate::judging::{Judged, Plan, Split};
-use crate::rankings::{Rank, Ranking};
-use crate::recordings::Recording;
-use answers::Draws;
-
-#[derive(Clone, Debug)]
-pub enum Case {
-    Recording(Recording),
-    Ranking(Ranking),
-    Rank(Rank),
-    Judged(Judged),
-    Split(Split),
-    Plan(Plan),
-}
+use answers::run::Case;
 
 /// What differs, in words.
 pub type Checked = Result<(), String>;
 
-impl Case {
-    pub fn draw(draws: &mut Draws) -> Case {
-        match draws.below(20) {
-            0..=9 => Case::Recording(Recording::draw(draws)),
-            10..=12 => Case::Ranking(Ranking::draw(draws)),
-            13..=14 => Case::Rank(Rank::draw(draws)),
-            15..=17 => Case::Judged(Judged::draw(draws)),
-            18 => Case::Split(Split::draw(draws)),
-            _ => Case::Plan(Plan::draw(draws)),
-        }
-    }
+pub trait Compared: Sized {
+    /// Makes our calls and the reference's.
+    fn check(&self) -> Checked;
 
-    pub fn kind(&self) -> &'static str {
-        match self {
-            Case::Recording(_) => "recordings searched",
-            Case::Ranking(_) => "rankings",
-            Case::Rank(_) => "ranks",
-            Case::Judged(_) => "checks and evaluations",
-            Case::Split(_) => "splits",
-            Case::Plan(_) => "sweep plans",
-        }
-    }
+    /// Cases that are smaller by one step.
+    fn smaller(&self) -> Vec<Self>;
+}
 
-    pub fn check(&self) -> Checked {
+pub fn kind(case: &Case) -> &'static str {
+    match case {
+        Case::Recording(_) => "recordings searched",
+        Case::Ranking(_) => "rankings",
+        Case::Rank(_) => "ranks",
+        Case::Judged(_) => "checks and evaluations",
+        Case::Split(_) => "splits",
+        Case::Plan(_) => "sweep plans",
+    }
+}
+
+impl Compared for Case {
+    fn check(&self) -> Checked {
         match self {
             Case::Recording(case) => case.check(),
             Case::Ranking(case) => case.check(),
@@ -52,7 +36,6 @@ impl Case {
         }
     }
 
-    /// Cases that are smaller by one step.
     fn smaller(&self) -> Vec<Case> {
         match self {
             Case::Recording(case) => case.smaller().into_iter().map(Case::Recording).collect(),
@@ -60,7 +43,7 @@ impl Case {
             Case::Rank(case) => case.smaller().into_iter().map(Case::Rank).collect(),
             Case::Judged(case) => case.smaller().into_iter().map(Case::Judged).collect(),
             Case::Split(case) => case.smaller().into_iter().map(Case::Split).collect(),
-            Case::Plan(_) => vec![],
+            Case::Plan(case) => case.smaller().into_iter().map(Case::Plan).collect(),
         }
     }
 }

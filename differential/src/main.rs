@@ -1,22 +1,28 @@
-//! Our calls against the reference's, on drawn cases: `differential [SEED [CASES]]`. Or their times: `differential bench`.
+//! Our calls against the reference's, on drawn cases: `differential [SEED [CASES]]`. Or their times: `differential bench`. Or what is known to differ:
+//! `differential differences`.
 
 mod bench;
 mod case;
+mod differences;
 mod judging;
 mod ours;
 mod rankings;
 mod recordings;
 
-use answers::Draws;
-use case::{shrink, Case};
+use answers::run::Case;
+use case::{kind, shrink, Compared};
 use std::{collections::BTreeMap, env, process::exit, time::Instant, time::SystemTime};
 
 fn main() {
     let args: Vec<String> = env::args().skip(1).collect();
-    if args.first().is_some_and(|arg| arg == "bench") {
+    let first = args.first().map(String::as_str);
+    if first == Some("bench") {
         return bench::run();
     }
-    let seed = match args.first() {
+    if first == Some("differences") {
+        return differences::run();
+    }
+    let seed = match first {
         Some(arg) => arg.parse().expect("the seed is a number"),
         None => SystemTime::now().duration_since(SystemTime::UNIX_EPOCH).unwrap().as_nanos() as u64,
     };
@@ -30,9 +36,8 @@ fn compare(seed: u64, cases: u64) {
     let start = Instant::now();
     let mut kinds: BTreeMap<&str, u64> = BTreeMap::new();
     for number in 0..cases {
-        let mut draws = Draws::new(seed.wrapping_add(number.wrapping_mul(0xA076_1D64_78BD_642F)));
-        let case = Case::draw(&mut draws);
-        *kinds.entry(case.kind()).or_default() += 1;
+        let case = Case::of_run(seed, number);
+        *kinds.entry(kind(&case)).or_default() += 1;
         if let Err(what) = case.check() {
             println!("case {number} differs: {what}");
             let case = shrink(case);

@@ -54,16 +54,17 @@ impl Finding {
         self.numbers[2] as u32
     }
 
+    /// The score in the data that was searched; 0 of a finding from elsewhere.
     pub fn z(&self) -> f64 {
         f64::from_bits(self.numbers[3])
     }
 
-    /// The bins, those with the greatest counts first, equal counts by rising bin.
+    /// The bins, as searched: those with the greatest counts first, equal counts by rising bin. Of a finding from elsewhere, as they were given.
     pub fn order(&self) -> &[u32] {
         &self.order
     }
 
-    /// The counts of the bins in the data that was searched.
+    /// The counts of the bins in the data that was searched; none of a finding from elsewhere.
     pub fn counts(&self) -> &[u32] {
         &self.counts
     }

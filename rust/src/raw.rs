@@ -1,5 +1,6 @@
 //! The C interface as it stands in include/jimrawel.h, which says what is lent and what is left.
-//! A slice is an address and a number of entries; the address has to be valid for all of them, and no two lent slices may overlap.
+//! A slice is an address and a number of entries; the address has to be aligned, not null and valid for all of them, and a slice that is written may
+//! overlap no other.
 
 extern "C" {
     pub fn jimrawel_start(

@@ -1,11 +1,10 @@
 -- Records as numbers in a lent slice.
 use Prim.Native.Nat.{ℕ, min}
-use mathlib.Core.Bool.{false}
 use mathlib.Core.List.{List, [], _∷_, _++_, map}
-use lib.Ieee.{fin, binary64, toBits}
-use lib.IntN.{pos}
+use lib.Ieee.{binary64, toBits}
 use lib.ListN.{length, getD, take, drop}
 use Rattle.counting.specs.declared.sampling.Sampler.{Sampler}
+use Rattle.ranking.specs.Ranking.{zeroScore}
 use Rattle.searching.specs.declared.finding.Finding.{Finding}
 use Rattle.judging.specs.declared.evaluation.Evaluated.{Evaluated}
 use Rattle.judging.specs.declared.evaluation.Score.{Score}
@@ -28,7 +27,7 @@ findingNumbers f = f .«block_size» ∷ f .width ∷ f .division ∷ toBits bin
 abbrev pub written : List ℕ → List ℕ → List ℕ
 written numbers lent = numbers ++ drop (length numbers) lent
 
--- the number, outside document 01's, of a lent record that is too short: nothing is then called or written
+-- the number, outside the rules', of a lent record that is too short: nothing is then called or written
 abbrev pub shortRecord : ℕ
 shortRecord = 25
 
@@ -44,7 +43,7 @@ findingRead l =
       width = getD l 1 0;
       bits = map narrowed (take 20 (drop 4 l));
       division = narrowed (getD l 2 0);
-      z = fin false 0 (pos 0);
+      z = zeroScore;
     }
 
 -- a score's case: 1 where it is a number, 0 for "no sample"

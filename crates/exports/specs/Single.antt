@@ -13,7 +13,7 @@ use Rattle.ranking.specs.declared.ranking.Ranking.{Ranking}
 use Rattle.subsets.specs.Bits.{validWidth}
 use Rattle.exports.specs.Records.{written, shortRecord}
 
--- the number, outside document 01's, of counts that add up to 2 ^ 32 or more
+-- the number, outside the rules', of counts that add up to 2 ^ 32 or more
 abbrev pub tooManyCounted : ℕ
 tooManyCounted = 26
 

@@ -1,11 +1,9 @@
 -- The worked examples: a finding evaluated on other data, and all of them together.
 use mathlib.Core.Path.{_≡_}
-use mathlib.Core.Bool.{false}
 use mathlib.Core.List.{List, [], _∷_}
 use Prim.Native.Nat.{ℕ}
-use lib.IntN.{pos}
-use lib.Ieee.{Float, fin}
 use Rattle.counting.specs.Recording.{blocksIn, recordedBit}
+use Rattle.scoring.specs.Halves.{one}
 use Rattle.searching.specs.Examples.{Examples}
 use Rattle.searching.specs.Finding.{findingOf, winnerOf}
 use Rattle.searching.specs.declared.finding.Finding.{Finding}
@@ -14,10 +12,6 @@ use Rattle.judging.specs.Evaluation.{countsIn, evaluatedOf}
 use Rattle.judging.specs.Plan.{PlansAtThousand}
 use Rattle.judging.specs.Split.{BlocksOfSixteen}
 use Rattle.judging.specs.declared.evaluation.Score.the-variants.{Z}
-
--- 1 as a double
-abbrev pub one : Float
-one = fin false 1 (pos 0)
 
 abbrev pub searched : List ℕ
 searched = 0 ∷ 0 ∷ 0xff ∷ 0xff ∷ []
@@ -40,7 +34,7 @@ pub record EvaluationExample : Type 0 where
   pub counts : countsIn together others ≡ 1 ∷ 1 ∷ 0 ∷ 2 ∷ []
   pub answer : evaluatedOf together itsOrder others 4 ≡ record { refusal = 0; positive = 3; score = Z one }
 
--- Theorem: all worked examples. The first, second, third, fourth, sixth and eighth of document 01 are those of the search, the fifth is the evaluation, the
+-- Theorem: all worked examples. The first, second, third, fourth, sixth and eighth of the rules are those of the search, the fifth is the evaluation, the
 -- seventh the split and the ninth the plan.
 pub record AllExamples : Type 0 where
   pub searched : Examples

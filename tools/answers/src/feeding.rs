@@ -49,8 +49,30 @@ pub fn pieces(draws: &mut Draws, block_size: usize, words: usize, recording: &[u
     pieces
 }
 
+/// 4 where start was refused, 5 where the bytes held would pass capacity.
+fn feed_refusal(block_size: usize, words: usize, held: usize, piece: usize) -> usize {
+    if !valid(block_size) {
+        4
+    } else if held + piece > capacity_bytes(block_size, words) {
+        5
+    } else {
+        0
+    }
+}
+
+/// The bytes held after all pieces.
+pub fn held(block_size: usize, words: usize, pieces: &[Vec<u8>]) -> Vec<u8> {
+    let mut held = Vec::new();
+    for piece in pieces {
+        if feed_refusal(block_size, words, held.len(), piece.len()) == 0 {
+            held.extend(piece);
+        }
+    }
+    held
+}
+
 /// The case: B, the number of lent words, the number of pieces, and each piece. The answer: start's refusal, which is 1 where B is no multiple of 8 from
-/// 8 to 4,096; for each feed its refusal, 4 after such a start and 5 where the bytes held would pass capacity, and the bytes held after it.
+/// 8 to 4,096; for each feed its refusal and the bytes held after it.
 /// A refused feed adds nothing. Returns the bytes held in the end.
 pub fn write_recording(sheet: &mut Sheet, block_size: usize, words: usize, pieces: &[Vec<u8>]) -> Vec<u8> {
     sheet.case([block_size, words]);
@@ -59,15 +81,11 @@ pub fn write_recording(sheet: &mut Sheet, block_size: usize, words: usize, piece
     let mut line = vec![if valid(block_size) { 0 } else { 1 }];
     for piece in pieces {
         sheet.list(piece);
-        if !valid(block_size) {
-            line.push(4);
-        } else if held.len() + piece.len() > capacity_bytes(block_size, words) {
-            line.push(5);
-        } else {
+        let refusal = feed_refusal(block_size, words, held.len(), piece.len());
+        if refusal == 0 {
             held.extend(piece);
-            line.push(0);
         }
-        line.push(held.len());
+        line.extend([refusal, held.len()]);
     }
     sheet.answer(line);
     held

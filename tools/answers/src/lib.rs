@@ -1,15 +1,16 @@
 //! The reference, built unchanged from its four files, with its functions made public under their own names,
-//! and what the programs of `src/bin` share: a fixed stream of draws, recordings in pieces and the two files that each writes.
+//! and what the programs of `src/bin` share: a fixed stream of draws, recordings in pieces, the cases of the differential run and the two files that each writes.
 //!
 //! A module below includes one file and adds public functions, which reach what is private to that file.
 #![allow(dead_code, unused_imports, unexpected_cfgs)]
 
 mod draws;
 mod feeding;
+pub mod run;
 mod sheet;
 
 pub use draws::Draws;
-pub use feeding::{capacity_bytes, cut, pieces, recording, valid, write_recording};
+pub use feeding::{capacity_bytes, cut, held, pieces, recording, valid, write_recording};
 pub use sheet::Sheet;
 
 pub use autotest::public::configurations;
@@ -18,7 +19,7 @@ pub use bottomup::public::{
     multi_eval_neg, negate, validate,
 };
 pub use common::public::{
-    bit_value_in_block, bits_block_eval, multi_eval, transform_data, whole_blocks, z_score,
+    arguments, bit_value_in_block, bits_block_eval, multi_eval, transform_data, whole_blocks, z_score,
 };
 pub use results::public::evaluate_histogram;
 
@@ -151,6 +152,15 @@ mod common {
 
     pub mod public {
         use crate::Rows;
+        use clap::Parser;
+
+        /// The block size and the width that the argument reader takes from these options, or its refusal's words.
+        pub fn arguments(options: &[&str]) -> Result<(usize, usize), String> {
+            let words = ["cooltest", "recording"].iter().chain(options);
+            let args = super::Args::try_parse_from(words).map_err(|e| e.to_string())?;
+            super::validate_args(&args).map_err(|e| e.to_string())?;
+            Ok((args.block, args.k))
+        }
 
         pub fn bits_block_eval(bits: &[usize], block: &[u8]) -> usize {
             super::bits_block_eval(bits, block)

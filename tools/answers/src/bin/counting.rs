@@ -26,8 +26,10 @@ fn main() {
     let mut cases = edge_cases(&mut draws);
     cases.extend(counted_cases(&mut draws));
     cases.extend(long_cases(&mut draws));
+    cases.extend(run::sample().filter_map(case_of_run));
     sheet.note("Samplers. Each: B and the number of lent words; the number of pieces, and for each its length and its bytes;");
     sheet.note("where B is valid, the number of subsets, and for each its width and its bits.");
+    sheet.note(&run::note());
     sheet.case([cases.len()]);
     for case in &cases {
         write_case(&mut sheet, case);
@@ -118,6 +120,17 @@ fn long_cases(draws: &mut Draws) -> Vec<Case> {
         cases.push(Case { block_size: 8, words, pieces, subsets: subsets(draws, 8) });
     }
     cases
+}
+
+/// A short recording of the differential run, and the subset that the reference finds in it.
+fn case_of_run(case: run::Case) -> Option<Case> {
+    let run::Case::Recording(drawn) = case else { return None };
+    if drawn.bytes() > 200 || drawn.block_size > 128 || !drawn.searchable() || drawn.k > 8 {
+        return None;
+    }
+    let run::Recording { block_size, words, pieces, k, .. } = drawn;
+    let found = bottomup(&held(block_size, words, &pieces), block_size, k, 1).unwrap();
+    Some(Case { block_size, words, pieces, subsets: vec![found.bits] })
 }
 
 fn subsets(draws: &mut Draws, block_size: usize) -> Vec<Vec<usize>> {

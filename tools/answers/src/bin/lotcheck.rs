@@ -21,7 +21,7 @@ fn main() {
     let mut sheet = Sheet::default();
     sheet.note("Inputs of lotcheck. Made, with their answers, by `tools/answers/run lotcheck REFERENCE`; no answer is our own program's.");
     sheet.note("Findings: the reference's bottomup on one thread, over the first part of its whole_blocks; positive and second z: its evaluate_histogram on the second part.");
-    sheet.note("Header, refusals and columns: the document's rules, in plain Rust in that tool.");
+    sheet.note("Header, refusals and columns: the rules, in plain Rust in that tool.");
     sheet.note("Each case: the length of the lent buffer, which is full of dots before; the number of bytes of the header and the bytes;");
     sheet.note("the number of bytes of a period and the bytes; the length of the recording, that period repeated.");
     sheet.note("Each answer: the number answered; then the whole buffer as text.");
@@ -41,7 +41,7 @@ fn main() {
     sheet.save();
 }
 
-/// The document's example.
+/// The rules' example.
 fn example(room: usize) -> Case {
     Case { room, header: header(8, 2), period: vec![0x00, 0x00, 0xFF, 0xFF, 0x00, 0x80, 0xFF, 0xFF], length: 8 }
 }

@@ -20,9 +20,11 @@ pub fn write(sheet: &mut Sheet, draws: &mut Draws) {
     cases.extend(searched(draws));
     cases.extend(drawn(draws));
     cases.extend(scores(draws));
+    cases.extend(run::sample().filter_map(case_of_run));
     sheet.note("Findings: the reference's validate, its refusals numbered by their words, and evaluate_histogram; by the rules 1 for B above 4,096 and 7");
     sheet.note("for a short scratch. Each: B, width, 20 bits, division, the pattern of z; the order, its length first; the scratch's length; the bytes, their");
     sheet.note("number first. Answer: the check's refusal; the scratch after it; the evaluation's refusal, positive blocks, and 1 and z or 0; the scratch after it.");
+    sheet.note(&run::note());
     sheet.case([cases.len()]);
     for case in &cases {
         write_case(sheet, case);
@@ -216,6 +218,28 @@ fn drawn(draws: &mut Draws) -> Vec<Case> {
         }
     }
     cases
+}
+
+/// A finding of the differential run with few entries and few bytes. Where the width is refused, or the order is too short for it, a long scratch says no
+/// more than a short one.
+fn case_of_run(case: run::Case) -> Option<Case> {
+    let run::Case::Judged(drawn) = case else { return None };
+    if drawn.order.len() > 65 || drawn.bytes.len() > 80 {
+        return None;
+    }
+    let mut bits: Vec<usize> = drawn.bits.iter().map(|&bit| bit as usize).collect();
+    bits.resize(20, 0);
+    Some(Case {
+        block_size: drawn.block_size,
+        width: drawn.width,
+        bits,
+        order: drawn.order.iter().map(|&bin| bin as usize).collect(),
+        division: drawn.division as usize,
+        // A NaN, which no one reads.
+        z: f64::from_bits(u64::MAX),
+        scratch: drawn.lent().min(66),
+        bytes: drawn.bytes,
+    })
 }
 
 /// Scores below zero, zero and above it, all blocks positive and none.

@@ -22,8 +22,14 @@ pub fn write(sheet: &mut Sheet, draws: &mut Draws) {
         let near = [1, 10 * MB, 2 * GB][draws.below(3)];
         cases.push((block_size, near + draws.below(3) - 1));
     }
+    for case in run::sample() {
+        if let run::Case::Plan(run::Plan { block_size, data_size }) = case {
+            cases.push((block_size, data_size));
+        }
+    }
     sheet.note("Plans: the reference's configurations; before it 1, where B is no multiple of 8 from 8 to 4,096.");
     sheet.note("Each: B and the bytes. Answer: the refusal and the number of pairs; seven block sizes; seven widths.");
+    sheet.note(&run::note());
     sheet.case([cases.len()]);
     for (block_size, size) in cases {
         sheet.case([block_size, size]);

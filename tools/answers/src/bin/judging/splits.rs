@@ -13,12 +13,23 @@ pub fn write(sheet: &mut Sheet, draws: &mut Draws) {
     cases.extend(drawn(draws));
     sheet.note("Splits: the reference's whole_blocks, its one refusal being 8; before it 1, where B is no multiple of 8 from 8 to 4,096.");
     sheet.note("Each: B, 1 for training or 0, and the raw bytes, their number first. Answer: the refusal; each part, its length first.");
-    sheet.case([2 * cases.len()]);
+    sheet.note(&run::note());
+    let of_run: Vec<(Case, bool)> = run::sample().filter_map(case_of_run).collect();
+    sheet.case([2 * cases.len() + of_run.len()]);
     for case in &cases {
         for training in [true, false] {
             write_case(sheet, case, training);
         }
     }
+    for (case, training) in &of_run {
+        write_case(sheet, case, *training);
+    }
+}
+
+/// Short bytes of the differential run, and whether there is training.
+fn case_of_run(case: run::Case) -> Option<(Case, bool)> {
+    let run::Case::Split(run::Split { block_size, training, raw }) = case else { return None };
+    (raw.len() <= 150).then_some((Case { block_size, raw }, training))
 }
 
 fn write_case(sheet: &mut Sheet, case: &Case, training: bool) {

@@ -16,8 +16,10 @@ pub fn write(sheet: &mut Sheet, draws: &mut Draws) {
     cases.extend(every_width(draws));
     cases.extend(largest_samples());
     cases.extend(wide(draws));
+    cases.extend(run::sample().filter_map(case_of_run));
     sheet.note("Rankings: the reference's Histogram::from_bins. Each: k, the length of the table of roots that is worked out beforehand, the 2^k counts.");
     sheet.note("Answer: a line with division and the pattern of z, a line with the order and two entries past it, lent as 99.");
+    sheet.note(&run::note());
     sheet.case([cases.len()]);
     for case in &cases {
         sheet.case([case.k, case.roots].into_iter().chain(case.bins.iter().copied()));
@@ -106,4 +108,14 @@ fn wide(draws: &mut Draws) -> Vec<Case> {
         cases.push(Case { k: 12, roots, bins: counts(draws, kind, 4096) });
     }
     cases
+}
+
+/// A narrow ranking of the differential run that is not refused, without roots worked out beforehand, as in the call for hosts.
+fn case_of_run(case: run::Case) -> Option<Case> {
+    let run::Case::Ranking(drawn) = case else { return None };
+    if drawn.k > 7 || drawn.refusal() != 0 {
+        return None;
+    }
+    let bins = drawn.counts[..1 << drawn.k].iter().map(|&count| count as usize).collect();
+    Some(Case { k: drawn.k, roots: 0, bins })
 }

@@ -17,8 +17,10 @@ pub fn write(sheet: &mut Sheet, draws: &mut Draws) {
     cases.extend(ends(draws));
     cases.extend(at_the_limit(draws));
     cases.extend(drawn(draws));
+    cases.extend(run::sample().filter_map(case_of_run));
     sheet.note("Ranks: the reference's compute_index; C(B, k) by Pascal's rule and the refusals by the rules, in a dozen lines of that tool.");
     sheet.note("Each: B, k and 20 bits, of which those past k mean nothing. Answer: refusal and rank.");
+    sheet.note(&run::note());
     sheet.case([cases.len()]);
     for case in &cases {
         let mut bits = case.bits.clone();
@@ -157,4 +159,10 @@ fn drawn(draws: &mut Draws) -> Vec<Case> {
         }
     }
     cases
+}
+
+/// The bits past the twentieth, where the width is refused, have no place in the array.
+fn case_of_run(case: run::Case) -> Option<Case> {
+    let run::Case::Rank(run::Rank { block_size, bits }) = case else { return None };
+    Some(Case { block_size, k: bits.len(), bits: bits.iter().take(20).map(|&bit| bit as usize).collect() })
 }

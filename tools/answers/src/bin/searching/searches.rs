@@ -2,6 +2,7 @@
 
 use crate::binomial;
 use answers::*;
+
 /// A recording, and the searches made after it.
 struct Case {
     block_size: usize,
@@ -36,12 +37,14 @@ pub fn write(sheet: &mut Sheet, draws: &mut Draws) {
     cases.extend(with_ties(draws));
     cases.extend(tied_divisions(draws));
     cases.extend(long(draws));
+    cases.extend(run::sample().filter_map(case_of_run));
     sheet.note("Searches: the reference's bottomup on the bytes held, with threads = 1 for the direct and 0 for the layered search; the winner's counts by its evaluate_histogram.");
     sheet.note("Refusals, and the entries W that a store needs, by the rules in that tool.");
     sheet.note("Each: B and the number of lent words; the number of pieces, and for each its length and its bytes; the number of searches, and for each");
     sheet.note("k, the lengths of bin buffer, order buffer and both stores, W (0 where the layered search is refused), and 0, or 1 with another sampler's B, words and T.");
     sheet.note("Answer: a line for the calls of start and feed; for each search, first direct, then layered: a line with refusal, B, width, 20 bits, division and the");
     sheet.note("pattern of z; a line with the counts, one with the order, and one with how many other entries of each buffer (and store, past W) are no longer as lent.");
+    sheet.note(&run::note());
     sheet.case([cases.len()]);
     for case in &cases {
         write_case(sheet, case);
@@ -60,7 +63,7 @@ fn search(block_size: usize, k: usize, more: usize) -> Search {
     Search { k, bins: m + more, order: m + more, first: store + more, second: store + more, sampler: None }
 }
 
-/// The searches of document 01's examples.
+/// The searches of the rules' examples.
 fn examples() -> Vec<Case> {
     let mut cases = Vec::new();
     for (k, recording) in [(1, vec![0x80; 4]), (1, vec![0xFF, 0x00]), (3, vec![]), (2, vec![0x00, 0x00, 0xFF, 0xFF])] {
@@ -216,7 +219,31 @@ fn long(draws: &mut Draws) -> Vec<Case> {
     }
     let recording = recording(draws, 5, 8 * 70);
     cases.push(Case { block_size: 64, words: 128, pieces: vec![recording], searches: vec![search(64, 4, 1)] });
+    // One block more than are marked at once, the last two unlike the others. Each byte is one digit, to keep the file small.
+    let mut recording: Vec<u8> = (0..32_769).map(|_| draws.below(8) as u8).collect();
+    recording[32_767..].copy_from_slice(&[9, 8]);
+    let pieces = cut(draws, &recording, 3);
+    cases.push(Case { block_size: 8, words: 8 * 513, pieces, searches: vec![search(8, 1, 1), search(8, 3, 1)] });
     cases
+}
+
+/// A short recording of the differential run with its search, whose buffers and stores have one entry too few, just enough, or one or two more.
+fn case_of_run(case: run::Case) -> Option<Case> {
+    let run::Case::Recording(drawn) = case else { return None };
+    let (block_size, words, k) = (drawn.block_size, drawn.words, drawn.k);
+    let searchable = drawn.searchable();
+    let store = if searchable { store_entries(block_size, k) } else { 2 };
+    // As much as the program's buffers hold, and little to print: the more bins, the fewer bytes.
+    if drawn.bytes() > 200 || words > 8192 || (searchable && (k > 8 || drawn.bytes() << k > 1200)) || store > 300_000 {
+        return None;
+    }
+    let entries = |needed: usize, more: isize| (needed as isize + more) as usize;
+    // Where the width is refused, any buffer will do.
+    let m = if searchable { 1 << k } else { 2 };
+    let [first, second] = drawn.stores.map(|more| entries(store as usize, more));
+    let past = Sampler { block_size, words, taken: capacity_bytes(block_size, words) + 1 };
+    let search = Search { k, bins: entries(m, drawn.bins), order: entries(m, drawn.order), first, second, sampler: drawn.stale.then_some(past) };
+    Some(Case { block_size, words, pieces: drawn.pieces, searches: vec![search] })
 }
 
 fn write_case(sheet: &mut Sheet, case: &Case) {

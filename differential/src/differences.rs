@@ -1,0 +1,274 @@
+//! The inputs of docs/DIFFERENCES.md, each given to our calls and to the reference's: that both answer as is written there.
+
+use crate::case::{same, Checked};
+use crate::ours;
+use crate::recordings::numbers;
+use answers::{
+    arguments, bottomup, compute_index, configurations, evaluate_histogram, from_bins, transform_data, validate, whole_blocks, Finding,
+};
+use std::panic;
+
+const ROWS: [(&str, fn() -> Checked); 19] = [
+    ("pieces", pieces),
+    ("row words", row_words),
+    ("an unfinished block", unfinished_block),
+    ("large block sizes", large_block_sizes),
+    ("other block sizes", other_block_sizes),
+    ("many blocks", many_blocks),
+    ("widths", widths),
+    ("stores", stores),
+    ("buffers", buffers),
+    ("samplers", samplers),
+    ("threads", threads),
+    ("large ranks", large_ranks),
+    ("ranks of no subset", ranks_of_no_subset),
+    ("counts of a ranking", counts_of_a_ranking),
+    ("no sample", no_sample),
+    ("unsound findings", unsound_findings),
+    ("numbers of 2^32 and more", large_numbers),
+    ("a refused split", refused_split),
+    ("powers of one half", powers_of_one_half),
+];
+
+pub fn run() {
+    panic::set_hook(Box::new(|_| {}));
+    for (name, row) in ROWS {
+        match row() {
+            Ok(()) => println!("{name}: as written"),
+            Err(what) => {
+                println!("{name}: {what}");
+                std::process::exit(1);
+            }
+        }
+    }
+    println!("{} inputs, each as written", ROWS.len());
+}
+
+/// That an answer is the one that is written.
+fn is<T: PartialEq + std::fmt::Debug>(what: &str, answer: T, written: T) -> Checked {
+    if answer == written {
+        return Ok(());
+    }
+    Err(format!("{what}: {answer:?}, where {written:?} is written"))
+}
+
+/// That the reference panics.
+fn panics<T>(what: &str, call: impl FnOnce() -> T + panic::UnwindSafe) -> Checked {
+    is(what, panic::catch_unwind(call).is_err(), true)
+}
+
+/// A sampler of just enough words for the bytes, and the words.
+fn sampled(block_size: usize, pieces: &[&[u8]]) -> ([u64; 3], Vec<u64>) {
+    let bytes: usize = pieces.iter().map(|piece| piece.len()).sum();
+    let (mut sampler, mut words) = ([0; 3], vec![0; block_size * bytes.div_ceil(8 * block_size).max(1)]);
+    assert_eq!(ours::start(block_size, &mut words, &mut sampler), 0);
+    for piece in pieces {
+        assert_eq!(ours::feed(&mut sampler, &mut words, piece), 0);
+    }
+    (sampler, words)
+}
+
+/// A finding of two bits of a block of 8, with another order, or another division.
+fn finding(order: &[usize], division: usize) -> Finding {
+    Finding { block_size: 8, bits: vec![0, 1], order: order.to_vec(), division, z: 0.0 }
+}
+
+fn check(finding: &Finding, scratch: &mut [u32]) -> u32 {
+    let order: Vec<u32> = finding.order.iter().map(|&bin| bin as u32).collect();
+    ours::validate(&numbers(finding), &order, scratch)
+}
+
+fn pieces() -> Checked {
+    let (sampler, words) = sampled(8, &[&[0, 0, 255], &[], &[255]]);
+    let found = bottomup(&[0, 0, 255, 255], 8, 2, 1)?;
+    same("finding", ours::direct(&sampler, &words, 2, &mut [0; 4], &mut [0; 4]).finding, numbers(&found))
+}
+
+fn row_words() -> Checked {
+    let bytes = [0x80; 65];
+    is("ours", &sampled(8, &[&bytes]).1[..4], &[u64::MAX, 1, 0, 0])?;
+    is("the reference's", transform_data(&bytes, 8).row(0), &[(1 << 65) - 1])
+}
+
+fn unfinished_block() -> Checked {
+    let bytes = [0xFF; 3];
+    let rows = transform_data(&bytes, 16);
+    is("ours", sampled(16, &[&bytes]).1[0], 3)?;
+    is("the reference's", (rows.num_of_blocks(), rows.row(0)), (1, &[1][..]))?;
+    let (sampler, words) = sampled(16, &[&bytes]);
+    let mut counts = [0; 2];
+    is("refusal", ours::direct(&sampler, &words, 1, &mut counts, &mut [0; 2]).refusal, 0)?;
+    is("counts", counts, [0, 1])
+}
+
+fn large_block_sizes() -> Checked {
+    let raw = [7; 2 * 513];
+    is("the reference's arguments", arguments(&["-b", "4104"]), Ok((4104, 2)))?;
+    let found = bottomup(&raw, 4104, 1, 1)?;
+    is("the reference's bits", &found.bits[..], &[0])?;
+    is("the reference's check", validate(&found), Ok(()))?;
+    is("the reference's parts", whole_blocks(&raw, 4104, true).map(|parts| parts.1.len()), Ok(513))?;
+    is("the reference's plan", configurations(4104, 1), vec![(8, 8), (4104, 2)])?;
+    is("the reference's rank", compute_index(&[4103], 4104), 4103)?;
+    is("start", ours::start(4104, &mut [0; 5000], &mut [0; 3]), 1)?;
+    is("check", ours::validate(&numbers(&found), &[0, 1], &mut [0; 2]), 1)?;
+    is("evaluation", ours::evaluate(&numbers(&found), &[0, 1], &raw, &mut [0; 2]), (1, [0; 3]))?;
+    is("split", ours::whole_blocks(&raw, 4104, true), (1, [0; 2]))?;
+    is("plan", ours::configurations(4104, 1), (1, [0; 15]))?;
+    is("rank", ours::rank(4104, &[4103]), (1, 0))
+}
+
+fn other_block_sizes() -> Checked {
+    let raw = [1, 2, 3, 4];
+    is("the reference's blocks", transform_data(&raw, 12).num_of_blocks(), 4)?;
+    panics("the reference's rows", || transform_data(&[1, 2, 3, 4], 4))?;
+    panics("the reference's split", || whole_blocks(&[1, 2, 3, 4], 4, true).is_ok())?;
+    is("the reference's plan", configurations(0, 1000), configurations(8, 1000))?;
+    for block_size in [0, 4, 12] {
+        is("the reference's arguments", arguments(&["-b", &block_size.to_string()]).is_err(), true)?;
+        is("start", ours::start(block_size, &mut [0; 64], &mut [0; 3]), 1)?;
+        is("split", ours::whole_blocks(&raw, block_size, true).0, 1)?;
+        is("plan", ours::configurations(block_size, 1000).0, 1)?;
+    }
+    Ok(())
+}
+
+fn many_blocks() -> Checked {
+    let bytes = vec![0x80; (1 << 24) + 1];
+    let (mut sampler, mut words) = ([0; 3], vec![0; 8 * ((1 << 18) + 1)]);
+    is("start", ours::start(8, &mut words, &mut sampler), 0)?;
+    is("feed", ours::feed(&mut sampler, &mut words, &bytes), 5)?;
+    is("feed of a byte less", ours::feed(&mut sampler, &mut words, &bytes[1..]), 0)?;
+    is("the reference's blocks", transform_data(&bytes, 8).num_of_blocks(), (1 << 24) + 1)?;
+    let finding = finding(&[0, 1, 2, 3], 1);
+    is("evaluation", ours::evaluate(&numbers(&finding), &[0, 1, 2, 3], &bytes, &mut [0; 4]), (12, [0; 3]))?;
+    is("the reference's bins", evaluate_histogram(&finding, &bytes).bins, vec![0, (1 << 24) + 1, 0, 0])
+}
+
+fn widths() -> Checked {
+    let (sampler, words) = sampled(8, &[&[0, 255]]);
+    let refusal = |k: usize| ours::direct(&sampler, &words, k, &mut [0; 512], &mut [0; 512]).refusal;
+    is("widths 0, 9, 21", [0, 9, 21].map(refusal), [2, 3, 2])?;
+    is("the reference's bits at width 0", bottomup(&[0, 255], 8, 0, 1)?.bits, vec![])?;
+    for k in ["0", "9", "21"] {
+        is("the reference's arguments", arguments(&["-b", "8", "-k", k]).is_err(), true)?;
+    }
+    for k in [9, 21] {
+        let words = bottomup(&[0, 255], 8, k, 1).unwrap_err();
+        is("the reference's words", words.starts_with("no distinguisher found"), true)?;
+    }
+    Ok(())
+}
+
+fn stores() -> Checked {
+    let (sampler, words) = sampled(8, &[&[0, 255]]);
+    let refusal = |entries: usize| {
+        let (mut first, mut second) = (vec![0; entries], vec![0; 1792]);
+        ours::layered(&sampler, &words, 8, &mut first, &mut second, &mut [0; 256], &mut [0; 256]).refusal
+    };
+    is("stores of 1,791 and 1,792", [1791, 1792].map(refusal), [6, 0])?;
+    is("the reference", bottomup(&[0, 255], 8, 8, 0).is_ok(), true)?;
+    // C(128, 5) x 2^5 is above 2^32: refused with any stores. The reference would need more memory than there is.
+    let (sampler, words) = sampled(128, &[&[0; 16]]);
+    let layered = ours::layered(&sampler, &words, 6, &mut [0; 9], &mut [0; 9], &mut [0; 64], &mut [0; 64]);
+    is("W above 2^32", layered.refusal, 6)
+}
+
+fn buffers() -> Checked {
+    let (sampler, words) = sampled(8, &[&[0, 255]]);
+    let mut bins = [5; 3];
+    is("search", ours::direct(&sampler, &words, 2, &mut bins, &mut [0; 4]).refusal, 7)?;
+    is("bins", bins, [5; 3])?;
+    is("check", check(&finding(&[0, 1, 2, 3], 1), &mut [0; 3]), 7)?;
+    is("a finding of 23 numbers", ours::validate(&numbers(&finding(&[0, 1, 2, 3], 1))[..23], &[0, 1, 2, 3], &mut [0; 4]), 25)
+}
+
+fn samplers() -> Checked {
+    let (sampler, words) = sampled(8, &[&[0, 255]]);
+    is("other words", ours::direct(&sampler, &words[1..], 1, &mut [0; 2], &mut [0; 2]).refusal, 4)
+}
+
+fn threads() -> Checked {
+    let bytes: Vec<u8> = (0..999).map(|i| (i * i % 251) as u8).collect();
+    let (sampler, words) = sampled(24, &[&bytes]);
+    let ours = ours::direct(&sampler, &words, 3, &mut [0; 8], &mut [0; 8]).finding;
+    for threads in 0..4 {
+        same("finding", ours, numbers(&bottomup(&bytes, 24, 3, threads)?))?;
+    }
+    Ok(())
+}
+
+fn large_ranks() -> Checked {
+    is("the reference's rank", compute_index(&[4093, 4094, 4095], 4096), 11_444_858_879)?;
+    is("rank", ours::rank(4096, &[4093, 4094, 4095]), (12, 0))?;
+    let bits: Vec<usize> = (2..22).collect();
+    let narrow: Vec<u32> = (2..22).collect();
+    is("the reference's sum of two that are too large", compute_index(&bits, 4096), usize::MAX - 1)?;
+    is("rank", ours::rank(4096, &narrow), (12, 0))
+}
+
+fn ranks_of_no_subset() -> Checked {
+    let lists: [(usize, Vec<u32>, usize, u32); 5] = [
+        (8, vec![1, 0], 7, 9),
+        (8, vec![8], 8, 10),
+        (8, vec![], 0, 2),
+        (8, (0..9).collect(), 0, 3),
+        (24, (3..24).collect(), 2023, 2),
+    ];
+    for (block_size, bits, rank, refusal) in lists {
+        let wide: Vec<usize> = bits.iter().map(|&bit| bit as usize).collect();
+        is("the reference's rank", compute_index(&wide, block_size), rank)?;
+        is("rank", ours::rank(block_size, &bits), (refusal, 0))?;
+    }
+    Ok(())
+}
+
+fn counts_of_a_ranking() -> Checked {
+    let rank = |counts: &[u32]| {
+        let (mut order, mut ranking) = ([9; 3], [9; 2]);
+        let refusal = ours::from_bins(1, counts, &mut order, &mut ranking);
+        (refusal, order, ranking)
+    };
+    is("a sum of 2^32", rank(&[u32::MAX, 1]), (26, [9; 3], [9; 2]))?;
+    is("the reference's z", from_bins(&[0], &[u32::MAX as usize, 1], 8).z, 65535.99996948242)?;
+    is("three counts for two bins", rank(&[0, 0, 9]), (0, [0, 1, 9], [1, 0]))?;
+    is("the reference's order", from_bins(&[0], &[0, 0, 9], 8).order, vec![2, 0, 1])
+}
+
+fn no_sample() -> Checked {
+    let finding = Finding { block_size: 16, ..finding(&[0, 1, 2, 3], 1) };
+    is("ours", ours::evaluate(&numbers(&finding), &[0, 1, 2, 3], &[255], &mut [0; 4]), (0, [0; 3]))?;
+    is("the reference's z", evaluate_histogram(&finding, &[255]).z.is_nan(), true)
+}
+
+fn unsound_findings() -> Checked {
+    let twice = finding(&[0, 0, 1, 2], 2);
+    is("check", check(&twice, &mut [0; 4]), 13)?;
+    is("the reference's check", validate(&twice).is_err(), true)?;
+    is("evaluation", ours::evaluate(&numbers(&twice), &[0, 0, 1, 2], &[0], &mut [0; 4]), (13, [0; 3]))?;
+    is("the reference's positive blocks of one", evaluate_histogram(&twice, &[0]).positive, 2)?;
+    let outside = finding(&[0, 1, 2, 4], 4);
+    is("evaluation", ours::evaluate(&numbers(&outside), &[0, 1, 2, 4], &[0], &mut [0; 4]), (13, [0; 3]))?;
+    panics("the reference's evaluation", || evaluate_histogram(&finding(&[0, 1, 2, 4], 4), &[0]).positive)
+}
+
+fn large_numbers() -> Checked {
+    let large = |first: usize| Finding { bits: vec![first, (1 << 32) + 1], ..finding(&[0, 1, 2, 3], 1) };
+    for (first, refusal) in [(1, 10), (1 << 32, 9)] {
+        is("check", check(&large(first), &mut [0; 4]), refusal)?;
+        is("the reference's check", validate(&large(first)).is_err_and(|words| words.contains("outside a")), true)?;
+    }
+    Ok(())
+}
+
+fn refused_split() -> Checked {
+    is("split", ours::whole_blocks(&[1, 2, 3], 16, true), (8, [0; 2]))?;
+    is("the reference's split", whole_blocks(&[1, 2, 3], 16, true).is_err(), true)
+}
+
+fn powers_of_one_half() -> Checked {
+    for k in 1..=20 {
+        is("the reference's power", 2_f64.powf(-(k as f64)).to_bits(), (1023 - k as u64) << 52)?;
+    }
+    Ok(())
+}

@@ -1,0 +1,57 @@
+//! The cases of the differential run. They are drawn here and compared in `differential/`; the first of one run are stored with their answers too.
+
+mod judging;
+mod rankings;
+mod recordings;
+
+pub use judging::{Judged, Plan, Split};
+pub use rankings::{Rank, Ranking};
+pub use recordings::Recording;
+
+use crate::Draws;
+
+/// One case of any kind.
+#[derive(Clone, Debug)]
+pub enum Case {
+    Recording(Recording),
+    Ranking(Ranking),
+    Rank(Rank),
+    Judged(Judged),
+    Split(Split),
+    Plan(Plan),
+}
+
+impl Case {
+    /// A case of the run with a seed, drawn from the seed and its number alone. One of a thousand is a long recording.
+    pub fn of_run(seed: u64, number: u64) -> Case {
+        let draws = &mut Draws::new(seed.wrapping_add(number.wrapping_mul(0xA076_1D64_78BD_642F)));
+        if number % 1000 == 999 {
+            return Case::Recording(Recording::long(draws));
+        }
+        Case::draw(draws)
+    }
+
+    fn draw(draws: &mut Draws) -> Case {
+        match draws.below(20) {
+            0..=9 => Case::Recording(Recording::draw(draws)),
+            10..=12 => Case::Ranking(Ranking::draw(draws)),
+            13..=14 => Case::Rank(Rank::draw(draws)),
+            15..=17 => Case::Judged(Judged::draw(draws)),
+            18 => Case::Split(Split::draw(draws)),
+            _ => Case::Plan(Plan::draw(draws)),
+        }
+    }
+}
+
+/// The run that is sampled, and how many of its cases: those that are short are stored.
+const SEED: u64 = 20_261_115;
+const CASES: u64 = 500;
+
+pub fn sample() -> impl Iterator<Item = Case> {
+    (0..CASES).map(|number| Case::of_run(SEED, number))
+}
+
+/// What a file of cases says of the sample's.
+pub fn note() -> String {
+    format!("The last ones are the short ones of `differential/run REFERENCE {SEED} {CASES}`, answered by the reference and the rules as the others are.")
+}
