@@ -17,7 +17,7 @@ use Rattle.subsets.proofs.Listing.{bits-below}
 use Rattle.subsets.proofs.Ranking.{ranks}
 use Rattle.subsets.proofs.Carrying.{snoc, length-snoc, bump, fills}
 use Rattle.layers.specs.Layers.{withoutAt}
-use Rattle.layers.specs.Run.{lastBit, leading, Run}
+use Rattle.layers.specs.Run.{lastBit, leading, Run, RunRoom}
 use Rattle.layers.proofs.Removing.{subset-without}
 use Rattle.layers.proofs.Filling.{part-at}
 
@@ -133,3 +133,8 @@ begun bit n B bits counts ys rs h room size each ranked = record { counted = cou
         ∙ part-at x (B - x) (b - x) counts ys (omega arith) (omega (arith, size))
         ∙ each (b - x) inside
         ∙ ap (λ (i : ℕ). allSet bit n (leading bits ++ (i ∷ []))) e
+
+-- ---- the room for a run, in buffers of the same lengths
+
+pub room-stays : (B k m : ℕ) (counts ranks counts′ ranks′ : List ℕ) → length counts′ ≡ length counts → length ranks′ ≡ length ranks → m ≡ k → RunRoom B k counts ranks → RunRoom B m counts′ ranks′
+room-stays B k m counts ranks counts′ ranks′ c r e w = record { bits = omega (arith, w .bits); chosen = omega (arith, w .chosen) }

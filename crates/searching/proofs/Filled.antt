@@ -1,4 +1,4 @@
--- Buffers of which the first entries were replaced, and the room for a run.
+-- Buffers of which the first entries were replaced.
 use mathlib.Core.Path.{_≡_, ap, _∙_}
 use mathlib.Core.List.{List, _++_}
 use Prim.Native.Nat.{ℕ, _+_, _^_, _≤_}
@@ -7,7 +7,6 @@ use lib.ListN.{length, take, drop, length-append, length-drop}
 use lib.Seq.{take-at, drop-at}
 use Rattle.counting.specs.Sample.{countsOf, countIn}
 use Rattle.counting.proofs.Counts.{length-list}
-use Rattle.layers.specs.Run.{RunRoom}
 use Rattle.ranking.specs.Order.{orderOf}
 use Rattle.ranking.proofs.Totals.{order-length}
 
@@ -36,8 +35,3 @@ module _ (bit : ℕ → ℕ → ℕ) (n k : ℕ) (bits l l′ : List ℕ) (size 
 
   pub order-rest : l′ ≡ orderOf (countsOf bit n bits) ++ drop (2 ^ length bits) l → drop (2 ^ k) l′ ≡ drop (2 ^ k) l
   order-rest e = rw (← size) (ap (drop (2 ^ length bits)) e ∙ replaced-rest (2 ^ length bits) (orderOf (countsOf bit n bits)) l (length-order bit n bits))
-
--- ---- the room for a run, in buffers of the same lengths
-
-pub room-stays : (B k m : ℕ) (counts ranks counts′ ranks′ : List ℕ) → length counts′ ≡ length counts → length ranks′ ≡ length ranks → m ≡ k → RunRoom B k counts ranks → RunRoom B m counts′ ranks′
-room-stays B k m counts ranks counts′ ranks′ c r e w = record { bits = omega (arith, w .bits); chosen = omega (arith, w .chosen) }

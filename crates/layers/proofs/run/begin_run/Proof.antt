@@ -3,11 +3,11 @@ use Prim.Native.Nat.{_+_, _-_, _<_}
 use mathlib.Core.Path.{_≡_, sym}
 use native.Mathlib.Omega.{arith}
 use lib.ListN.{length}
-use lib.Seq.{length-take-le, getD-take}
+use lib.Seq.{length-take-le}
 use borrow.Author.Needs.{needs}
 use borrow.Rule.Slice.PartMut.{midOf, mid-len}
-use Rattle.counting.specs.Rows.{RowsIn}
 use Rattle.counting.specs.Words.{storedBit}
+use Rattle.counting.proofs.Halves.{rows-init}
 use Rattle.subsets.proofs.Listing.{bits-below}
 use Rattle.layers.specs.Run.{lastBit, leading}
 use Rattle.layers.proofs.Filling.{rows-in}
@@ -62,8 +62,7 @@ multi-eval-requires c κs =
     let b = a .bits .now in
     let x = lastBit b in
     let size : length (leading b) ≡ length b - 1 = length-take-le (length b - 1) b (omega arith) in
-    let rows : RowsIn (a .words .now) (a .stride) (leading b) =
-    λ i h. rw (getD-take (length b - 1) b i 0 (omega (arith, size))) (rows-in (a .block-size) (length b) (a .stride) (a .words .now) b (s .pre .1 .0) (s .pre .1 .1 .0 .0) i (omega (arith, size))) in
+    let rows = rows-init (a .words .now) (a .stride) b (length b - 1) (rows-in (a .block-size) (length b) (a .stride) (a .words .now) b (s .pre .1 .0) (s .pre .1 .1 .0 .0)) in
     let all : x + length (midOf x (a .block-size - x) (a .counts .now)) ≡ a .block-size = omega (arith, inside d, mid-len x (a .block-size) (a .counts .now) (s .pre .1 .1 .1 .1 .bits)) in
     (omega (arith, size, s .pre .0), (rows, (s .pre .1 .1 .0 .1, (omega (arith, all, s .pre .0), rw all (s .pre .1 .1 .0 .0)))))
 

@@ -5,7 +5,7 @@ use lib.ListN.{length}
 use Rattle.counting.specs.Words.{storedBit}
 use Rattle.layers.specs.Layers.{Holds}
 use Rattle.searching.proofs.Climbing.{exchanged, below, made-second, past}
-use Rattle.searching.proofs.Filled.{room-stays}
+use Rattle.layers.proofs.Running.{room-stays}
 use Prim.Native.Nat.{ℕ, _+_, _-_, _≤_, _<_, max}
 use borrow.Author.Needs.{needs}
 use borrow.Fn.Kinds.{In}

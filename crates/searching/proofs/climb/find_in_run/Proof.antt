@@ -7,7 +7,7 @@ use lib.ListN.{length}
 use Rattle.counting.specs.Words.{storedBit}
 use Rattle.layers.proofs.Filling.{empty-layer}
 use Rattle.searching.proofs.Climbing.{below, made-first, past}
-use Rattle.searching.proofs.Filled.{room-stays}
+use Rattle.layers.proofs.Running.{room-stays}
 use borrow.Author.Needs.{needs}
 use Rattle.searching.proofs.climb.find_in_run.Statement.{statement}
 use Rattle.searching.proofs.climb.find_in_run.Tie as tie

@@ -11,7 +11,7 @@ use Rattle.ranking.specs.Order.{orderOf}
 use Rattle.subsets.specs.Subsets.{Subset}
 use Rattle.searching.specs.Finding.{winnerOf, rankingOf}
 use Rattle.searching.specs.Pass.{Space}
-use Rattle.searching.proofs.Filled.{room-stays}
+use Rattle.layers.proofs.Running.{room-stays}
 use Rattle.searching.proofs.Walking.{winner-optimal, winner-front}
 use Rattle.searching.proofs.pass.find_with.Statement.{statement}
 use Rattle.searching.proofs.pass.find_with.Tie as tie

@@ -5,7 +5,7 @@ use native.Mathlib.Omega.{arith}
 use lib.ListN.{length, take}
 use borrow.Author.Needs.{needs}
 use Rattle.layers.specs.Run.{RunRoom}
-use Rattle.searching.proofs.Filled.{room-stays}
+use Rattle.layers.proofs.Running.{room-stays}
 use Rattle.searching.proofs.stepping.step.Statement.{statement}
 use Rattle.searching.proofs.stepping.step.Tie as tie
 
