@@ -1,5 +1,5 @@
+use crate::calls;
 use crate::refusal::{accepted, Refusal};
-use crate::raw;
 
 /// A distinguisher: bits of a block, the order of their bins, the division of that order and the score there.
 #[derive(Clone, Debug, PartialEq)]
@@ -32,13 +32,7 @@ impl Finding {
             *number = bit as u64;
         }
         let mut scratch = vec![0; order.len()];
-        accepted(unsafe {
-            raw::jimrawel_validate(
-                numbers.as_ptr(), numbers.len(),
-                order.as_ptr(), order.len(),
-                scratch.as_mut_ptr(), scratch.len(),
-            )
-        })?;
+        accepted(calls::validate(&numbers, order, &mut scratch))?;
         Ok(Finding::found(numbers, order.to_vec(), Vec::new()))
     }
 
@@ -73,15 +67,7 @@ impl Finding {
     pub fn evaluate(&self, bytes: &[u8]) -> Result<Evaluation, Refusal> {
         let mut counts = vec![0; self.order.len()];
         let mut numbers = [0; 3];
-        accepted(unsafe {
-            raw::jimrawel_evaluate_histogram(
-                self.numbers.as_ptr(), self.numbers.len(),
-                self.order.as_ptr(), self.order.len(),
-                bytes.as_ptr(), bytes.len(),
-                counts.as_mut_ptr(), counts.len(),
-                numbers.as_mut_ptr(), numbers.len(),
-            )
-        })?;
+        accepted(calls::evaluate_histogram(&self.numbers, &self.order, bytes, &mut counts, &mut numbers))?;
         let z = (numbers[1] == 1).then(|| f64::from_bits(numbers[2]));
         Ok(Evaluation { positive: numbers[0] as u32, counts, z })
     }

@@ -17,8 +17,9 @@
 //! # Ok::<(), Refusal>(())
 //! ```
 
-pub mod raw;
+pub mod calls;
 mod finding;
+mod raw;
 mod refusal;
 mod sampler;
 
@@ -31,16 +32,14 @@ use refusal::accepted;
 /// How many subsets of as many bits come before these, in lexicographic order.
 pub fn rank(block_size: usize, bits: &[u32]) -> Result<usize, Refusal> {
     let mut rank = 0;
-    accepted(unsafe { raw::jimrawel_compute_index(block_size, bits.as_ptr(), bits.len(), &mut rank) })?;
+    accepted(calls::compute_index(block_size, bits, &mut rank))?;
     Ok(rank)
 }
 
 /// The training and the testing blocks of raw bytes; without training the first part is all whole blocks.
 pub fn split(bytes: &[u8], block_size: usize, training: bool) -> Result<(&[u8], &[u8]), Refusal> {
     let mut lengths = [0; 2];
-    accepted(unsafe {
-        raw::jimrawel_whole_blocks(bytes.as_ptr(), bytes.len(), block_size, training, lengths.as_mut_ptr(), 2)
-    })?;
+    accepted(calls::whole_blocks(bytes, block_size, training, &mut lengths))?;
     let (first, rest) = bytes.split_at(lengths[0] as usize);
     Ok((first, &rest[..lengths[1] as usize]))
 }
@@ -48,6 +47,6 @@ pub fn split(bytes: &[u8], block_size: usize, training: bool) -> Result<(&[u8], 
 /// The pairs of a block size and a width that a sweep searches, for a recording of so many bytes.
 pub fn plan(block_size: usize, data_size: usize) -> Result<Vec<(usize, usize)>, Refusal> {
     let mut plan = [0; 15];
-    accepted(unsafe { raw::jimrawel_configurations(block_size, data_size, plan.as_mut_ptr(), plan.len()) })?;
+    accepted(calls::configurations(block_size, data_size, &mut plan))?;
     Ok((0..plan[0] as usize).map(|i| (plan[1 + i] as usize, plan[8 + i] as usize)).collect())
 }

@@ -1,6 +1,6 @@
+use crate::calls;
 use crate::finding::Finding;
 use crate::refusal::{accepted, Refusal};
-use crate::raw;
 
 /// A recording in progress, with the words that hold it.
 #[derive(Clone, Debug)]
@@ -21,9 +21,7 @@ impl Sampler {
 
     fn call_start(&mut self, block_size: usize) -> Result<(), Refusal> {
         let Sampler { numbers, words } = self;
-        accepted(unsafe {
-            raw::jimrawel_start(block_size, words.as_mut_ptr(), words.len(), numbers.as_mut_ptr(), numbers.len())
-        })
+        accepted(calls::start(block_size, words, numbers))
     }
 
     pub fn block_size(&self) -> usize {
@@ -43,29 +41,14 @@ impl Sampler {
     /// Takes the next piece. Where it is refused nothing has changed.
     pub fn feed(&mut self, piece: &[u8]) -> Result<(), Refusal> {
         let Sampler { numbers, words } = self;
-        accepted(unsafe {
-            raw::jimrawel_feed(
-                numbers.as_mut_ptr(), numbers.len(),
-                words.as_mut_ptr(), words.len(),
-                piece.as_ptr(), piece.len(),
-            )
-        })
+        accepted(calls::feed(numbers, words, piece))
     }
 
     /// The best set of `k` bits, every bin counted.
     pub fn search_direct(&self, k: usize) -> Result<Finding, Refusal> {
         let Sampler { numbers, words } = self;
         let (mut bins, mut order, mut finding) = buffers(k);
-        accepted(unsafe {
-            raw::jimrawel_brute_force_threads(
-                numbers.as_ptr(), numbers.len(),
-                words.as_ptr(), words.len(),
-                k,
-                bins.as_mut_ptr(), bins.len(),
-                order.as_mut_ptr(), order.len(),
-                finding.as_mut_ptr(), finding.len(),
-            )
-        })?;
+        accepted(calls::brute_force_threads(numbers, words, k, &mut bins, &mut order, &mut finding))?;
         Ok(Finding::found(finding, order, bins))
     }
 
@@ -75,18 +58,7 @@ impl Sampler {
         let (mut bins, mut order, mut finding) = buffers(k);
         let size = store_size(self.block_size(), k);
         let (mut first, mut second) = (vec![0; size], vec![0; size]);
-        accepted(unsafe {
-            raw::jimrawel_brute_force(
-                numbers.as_ptr(), numbers.len(),
-                words.as_ptr(), words.len(),
-                k,
-                first.as_mut_ptr(), first.len(),
-                second.as_mut_ptr(), second.len(),
-                bins.as_mut_ptr(), bins.len(),
-                order.as_mut_ptr(), order.len(),
-                finding.as_mut_ptr(), finding.len(),
-            )
-        })?;
+        accepted(calls::brute_force(numbers, words, k, [&mut first, &mut second], &mut bins, &mut order, &mut finding))?;
         Ok(Finding::found(finding, order, bins))
     }
 }

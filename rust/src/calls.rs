@@ -1,0 +1,104 @@
+//! The calls on slices, each lent with its length. Safe: a slice is aligned and valid for all its entries, and one that is written overlaps no other.
+//! What is lent and left, and each refusal, says include/jimrawel.h. The types beside this module size the slices themselves.
+
+use crate::raw;
+
+pub fn start(block_size: usize, words: &mut [u64], sampler: &mut [u64]) -> u32 {
+    unsafe { raw::jimrawel_start(block_size, words.as_mut_ptr(), words.len(), sampler.as_mut_ptr(), sampler.len()) }
+}
+
+pub fn feed(sampler: &mut [u64], words: &mut [u64], piece: &[u8]) -> u32 {
+    unsafe {
+        raw::jimrawel_feed(
+            sampler.as_mut_ptr(), sampler.len(),
+            words.as_mut_ptr(), words.len(),
+            piece.as_ptr(), piece.len(),
+        )
+    }
+}
+
+pub fn brute_force_threads(
+    sampler: &[u64], words: &[u64], k: usize, bins: &mut [u32], order: &mut [u32], finding: &mut [u64],
+) -> u32 {
+    unsafe {
+        raw::jimrawel_brute_force_threads(
+            sampler.as_ptr(), sampler.len(),
+            words.as_ptr(), words.len(),
+            k,
+            bins.as_mut_ptr(), bins.len(),
+            order.as_mut_ptr(), order.len(),
+            finding.as_mut_ptr(), finding.len(),
+        )
+    }
+}
+
+/// `stores` are the first and the second.
+pub fn brute_force(
+    sampler: &[u64], words: &[u64], k: usize, stores: [&mut [u32]; 2], bins: &mut [u32], order: &mut [u32], finding: &mut [u64],
+) -> u32 {
+    let [first, second] = stores;
+    unsafe {
+        raw::jimrawel_brute_force(
+            sampler.as_ptr(), sampler.len(),
+            words.as_ptr(), words.len(),
+            k,
+            first.as_mut_ptr(), first.len(),
+            second.as_mut_ptr(), second.len(),
+            bins.as_mut_ptr(), bins.len(),
+            order.as_mut_ptr(), order.len(),
+            finding.as_mut_ptr(), finding.len(),
+        )
+    }
+}
+
+pub fn compute_index(block_size: usize, bits: &[u32], rank: &mut usize) -> u32 {
+    unsafe { raw::jimrawel_compute_index(block_size, bits.as_ptr(), bits.len(), rank) }
+}
+
+pub fn from_bins(k: usize, bins: &[u32], order: &mut [u32], ranking: &mut [u64]) -> u32 {
+    unsafe {
+        raw::jimrawel_from_bins(
+            k,
+            bins.as_ptr(), bins.len(),
+            order.as_mut_ptr(), order.len(),
+            ranking.as_mut_ptr(), ranking.len(),
+        )
+    }
+}
+
+pub fn validate(finding: &[u64], order: &[u32], scratch: &mut [u32]) -> u32 {
+    unsafe {
+        raw::jimrawel_validate(
+            finding.as_ptr(), finding.len(),
+            order.as_ptr(), order.len(),
+            scratch.as_mut_ptr(), scratch.len(),
+        )
+    }
+}
+
+pub fn evaluate_histogram(finding: &[u64], order: &[u32], bytes: &[u8], scratch: &mut [u32], evaluated: &mut [u64]) -> u32 {
+    unsafe {
+        raw::jimrawel_evaluate_histogram(
+            finding.as_ptr(), finding.len(),
+            order.as_ptr(), order.len(),
+            bytes.as_ptr(), bytes.len(),
+            scratch.as_mut_ptr(), scratch.len(),
+            evaluated.as_mut_ptr(), evaluated.len(),
+        )
+    }
+}
+
+pub fn whole_blocks(bytes: &[u8], block_size: usize, training: bool, lengths: &mut [u64]) -> u32 {
+    unsafe {
+        raw::jimrawel_whole_blocks(
+            bytes.as_ptr(), bytes.len(),
+            block_size,
+            training,
+            lengths.as_mut_ptr(), lengths.len(),
+        )
+    }
+}
+
+pub fn configurations(block_size: usize, data_size: usize, plan: &mut [u64]) -> u32 {
+    unsafe { raw::jimrawel_configurations(block_size, data_size, plan.as_mut_ptr(), plan.len()) }
+}
