@@ -8,6 +8,7 @@ mod judging;
 mod ours;
 mod rankings;
 mod recordings;
+mod wide;
 
 use answers::run::Case;
 use case::{kind, shrink, Compared};
@@ -21,6 +22,9 @@ fn main() {
     }
     if first == Some("differences") {
         return differences::run();
+    }
+    if first == Some("wide") {
+        return wide::run(args.get(1).expect("the width"), args.get(2).map(String::as_str));
     }
     let seed = match first {
         Some(arg) => arg.parse().expect("the seed is a number"),

@@ -5,7 +5,7 @@ use crate::ours::{self, Searched};
 use answers::run::Recording;
 use answers::{bottomup, capacity_bytes, choose, evaluate_histogram, transform_data, valid, Finding};
 
-const LENT: u32 = 0xABCD;
+pub const LENT: u32 = 0xABCD;
 
 /// How much a layered search works: the reference ranks a subset of the layer below for each bin of each layer.
 fn layered_work(block_size: usize, k: usize) -> usize {

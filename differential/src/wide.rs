@@ -1,0 +1,102 @@
+//! Direct searches of widths 17 to 20, which take too long to be drawn: one recording at B 24, one width a run. Its bytes have three values, so that most
+//! bins are empty and many sets of bits tie. The reference's answer is kept below `target`, so that its hours are spent once.
+
+use crate::case::{same, Checked};
+use crate::ours;
+use crate::recordings::{numbers, LENT};
+use answers::{bottomup, choose, evaluate_histogram, recording, Draws};
+use std::{fs, path::PathBuf, process::exit, thread, time::Instant};
+
+const BLOCK_SIZE: usize = 24;
+const BLOCKS: usize = 43;
+const SEED: u64 = 24;
+
+/// The finding's 24 numbers, the counts and the order.
+#[derive(PartialEq)]
+struct Answer {
+    finding: Vec<u64>,
+    counts: Vec<u32>,
+    order: Vec<u32>,
+}
+
+/// 43 blocks and two bytes of an unfinished one.
+fn held() -> Vec<u8> {
+    recording(&mut Draws::new(SEED), 5, BLOCKS * BLOCK_SIZE / 8 + 2)
+}
+
+pub fn run(width: &str, side: Option<&str>) {
+    let k: usize = width.parse().ok().filter(|k| (17..=20).contains(k)).expect("the width is 17 to 20");
+    println!("wide: B {BLOCK_SIZE}, {BLOCKS} blocks of seed {SEED}, width {k}: {} subsets of {} bins", choose(BLOCK_SIZE, k), 1_usize << k);
+    let reference = thread::spawn(move || reference(k));
+    if side == Some("reference") {
+        reference.join().unwrap();
+        return;
+    }
+    let ours = ours(k);
+    let reference = reference.join().unwrap();
+    if let Err(what) = compare(&ours, &reference) {
+        println!("wide: width {k} differs: {what}");
+        exit(1);
+    }
+    let bits = &ours.finding[4..4 + k];
+    println!("wide: width {k}: bits {bits:?}, division {}, z {}", ours.finding[2], f64::from_bits(ours.finding[3]));
+    println!("wide: width {k}: 1 compared, 0 different");
+}
+
+fn compare(ours: &Answer, reference: &Answer) -> Checked {
+    same("finding", &ours.finding, &reference.finding)?;
+    same("counts", ours.counts == reference.counts, true)?;
+    same("order", ours.order == reference.order, true)
+}
+
+/// Fed in three pieces with an empty and a refused one between.
+fn ours(k: usize) -> Answer {
+    let held = held();
+    let mut words = vec![u64::MAX; BLOCK_SIZE];
+    let mut sampler = [5; 3];
+    assert_eq!(ours::start(BLOCK_SIZE, &mut words, &mut sampler), 0);
+    let long = vec![0xFF; 64 * BLOCK_SIZE / 8];
+    for (piece, refusal) in [(&held[..50], 0), (&[], 0), (&long, 5), (&held[50..61], 0), (&held[61..], 0)] {
+        assert_eq!(ours::feed(&mut sampler, &mut words, piece), refusal);
+    }
+    let m = 1 << k;
+    let (mut counts, mut order) = (vec![LENT; m + 1], vec![LENT; m + 1]);
+    let start = Instant::now();
+    let searched = ours::direct(&sampler, &words, k, &mut counts, &mut order);
+    println!("wide: width {k}: ours took {:.0} s", start.elapsed().as_secs_f64());
+    assert_eq!((searched.refusal, counts.pop(), order.pop()), (0, Some(LENT), Some(LENT)));
+    Answer { finding: searched.finding.to_vec(), counts, order }
+}
+
+/// From the file that an earlier run left, or by the search.
+fn reference(k: usize) -> Answer {
+    let file = PathBuf::from(concat!(env!("CARGO_MANIFEST_DIR"), "/../target")).join(format!("wide-{k}"));
+    let text = fs::read_to_string(&file).unwrap_or_else(|_| {
+        let text = search(k);
+        fs::write(&file, &text).unwrap();
+        text
+    });
+    let mut lines = text.lines();
+    println!("wide: width {k}: the reference took {} s", lines.next().unwrap());
+    let mut list = || lines.next().unwrap().split(' ').map(|number| number.parse().unwrap()).collect::<Vec<u64>>();
+    let finding = list();
+    let mut entries = || list().into_iter().map(|entry| entry as u32).collect();
+    Answer { finding, counts: entries(), order: entries() }
+}
+
+/// The seconds, the finding, the counts and the order, a line each.
+fn search(k: usize) -> String {
+    let held = held();
+    let start = Instant::now();
+    let found = bottomup(&held, BLOCK_SIZE, k, 1).unwrap();
+    let seconds = start.elapsed().as_secs_f64();
+    let counts = evaluate_histogram(&found, &held).bins;
+    let line = |list: Vec<String>| list.join(" ");
+    [
+        format!("{seconds:.0}"),
+        line(numbers(&found).iter().map(u64::to_string).collect()),
+        line(counts.iter().map(usize::to_string).collect()),
+        line(found.order.iter().map(usize::to_string).collect()),
+    ]
+    .join("\n")
+}
