@@ -13,7 +13,7 @@ use Rattle.counting.specs.Block.{bitAt}
 use Rattle.counting.specs.Sample.{same, sumTo}
 use Rattle.counting.specs.Tally.{laneOf, wordAt, wordWith}
 use Rattle.counting.specs.Words.{storedBit}
-use Rattle.counting.specs.Rows.{RowsIn, onward, Room, markedIn}
+use Rattle.counting.specs.Rows.{RowsIn, onward, CountRoom, markedIn, Parted}
 use Rattle.counting.proofs.Marks.{partAt, stored-lt, with-row, marked-one, marked-last}
 
 -- a list and its last entry
@@ -53,13 +53,13 @@ rows-init words S bits last rows i h =
     let same : getD (take last bits) i 0 ≡ getD bits i 0 = getD-take last bits i 0 (omega arith) in
     rw same (rows i (omega arith))
 
-pub room-upper : (n half k : ℕ) (bins : List ℕ) → Room n bins → Room n (midOf half k bins)
+pub room-upper : (n half k : ℕ) (bins : List ℕ) → CountRoom n bins → CountRoom n (midOf half k bins)
 room-upper n half k bins room v h =
     let size : length (midOf half k bins) ≡ min k (length bins - half) = simp (length-take, length-drop) in
     let same : getD (midOf half k bins) v 0 ≡ getD bins (half + v) 0 = getD-take k (drop half bins) v 0 (omega arith) ∙ getD-drop half bins v 0 in
     rw same (room (half + v) (omega arith))
 
-pub room-lower : (n half k : ℕ) (bins ys : List ℕ) → half ≤ length bins → Room n bins → Room n (take half (putMid half k bins ys))
+pub room-lower : (n half k : ℕ) (bins ys : List ℕ) → half ≤ length bins → CountRoom n bins → CountRoom n (take half (putMid half k bins ys))
 room-lower n half k bins ys fits room =
     let first : take half (putMid half k bins ys) ≡ take half bins = take-put half k bins ys fits in
     rw first (λ v h.
@@ -72,66 +72,64 @@ lane-of : (f g : ℕ → ℕ) (e : ℕ) → f (e / 64) ≡ g (e / 64) → laneOf
 unfolding laneOf
 lane-of f g e h = ap (λ (w : ℕ). bitAt w (e % 64)) h
 
-module _ (words : List ℕ) (S start n : ℕ) (bits : List ℕ) (last at : ℕ) (many : length bits ≡ suc last) (here : at ≡ getD bits last 0 * S + start) (acc : List ℕ) where
-  -- the lanes of acc with the row of the last bit, flipped where y is 0
+module _ (words : List ℕ) (S start n : ℕ) (bits : List ℕ) (last at : ℕ) (many : length bits ≡ suc last) (here : at ≡ getD bits last 0 * S + start) (word : ℕ → ℕ) where
+  -- the lanes of the words with the row of the last bit, flipped where y is 0
   by-last : (flip y e : ℕ) → e < n → y < 2 → flip ≡ (1 - y) * (2 ^ 64 - 1)
-      → laneOf (wordWith acc (partAt words at ((n + 63) / 64)) flip) e
-      ≡ min (laneOf (wordAt acc) e) (same (storedBit S words (64 * start + e) (getD bits last 0)) y)
-  by-last flip y e h hy ef = with-row words S start (getD bits last 0) at ((n + 63) / 64) here acc flip y e (omega arith) hy ef
+      → laneOf (wordWith word (partAt words at ((n + 63) / 64)) flip) e
+      ≡ min (laneOf word e) (same (storedBit S words (64 * start + e) (getD bits last 0)) y)
+  by-last flip y e h hy ef = with-row words S start (getD bits last 0) at ((n + 63) / 64) here word flip y e (omega arith) hy ef
 
-  -- one bit: two bins
+  -- one bit: either of its bins
+  one-bin : (flip y : ℕ) → last ≡ 0 → y < 2 → flip ≡ (1 - y) * (2 ^ 64 - 1)
+      → sumTo (laneOf (wordWith word (partAt words at ((n + 63) / 64)) flip)) n
+      ≡ markedIn (laneOf word) (onward (64 * start) (storedBit S words)) bits n y
+  one-bin flip y one hy ef =
+      let single : getD bits last 0 ∷ [] ≡ bits = ap (λ (j : ℕ). take j bits ++ (getD bits last 0 ∷ [])) (sym one) ∙ sym (snoc-last bits last many) in
+      marked-one (laneOf word) _ (onward (64 * start) (storedBit S words)) (getD bits last 0) n y (λ e l. by-last flip y e l hy ef)
+      ∙ ap (λ (l : List ℕ). markedIn (laneOf word) (onward (64 * start) (storedBit S words)) l n y) single
+
+  -- and both
   pub two-bins : (bins bins′ : List ℕ) → last ≡ 0 → length bins ≡ 2
-      → (getD bins′ 0 0 ≡ getD bins 0 0 + sumTo (laneOf (wordWith acc (partAt words at ((n + 63) / 64)) 18446744073709551615)) n)
-      × (getD bins′ 1 0 ≡ getD bins 1 0 + sumTo (laneOf (wordWith acc (partAt words at ((n + 63) / 64)) 0)) n)
-      → (v : ℕ) → v < length bins → getD bins′ v 0 ≡ getD bins v 0 + markedIn (laneOf (wordAt acc)) (onward (64 * start) (storedBit S words)) bits n v
+      → Parted word (partAt words at ((n + 63) / 64)) n 0 bins bins′
+      → (v : ℕ) → v < length bins → getD bins′ v 0 ≡ getD bins v 0 + markedIn (laneOf word) (onward (64 * start) (storedBit S words)) bits n v
   two-bins bins bins′ one two (without, with) v h = go v (omega arith)
     where
-      single : getD bits last 0 ∷ [] ≡ bits
-      single = ap (λ (j : ℕ). take j bits ++ (getD bits last 0 ∷ [])) (sym one) ∙ sym (snoc-last bits last many)
-
-      counted : (flip y : ℕ) → y < 2 → flip ≡ (1 - y) * (2 ^ 64 - 1)
-          → sumTo (laneOf (wordWith acc (partAt words at ((n + 63) / 64)) flip)) n
-          ≡ markedIn (laneOf (wordAt acc)) (onward (64 * start) (storedBit S words)) bits n y
-      counted flip y hy ef =
-          marked-one (laneOf (wordAt acc)) _ (onward (64 * start) (storedBit S words)) (getD bits last 0) n y (λ e l. by-last flip y e l hy ef)
-          ∙ ap (λ (l : List ℕ). markedIn (laneOf (wordAt acc)) (onward (64 * start) (storedBit S words)) l n y) single
-
-      go : (v : ℕ) → v < 2 → getD bins′ v 0 ≡ getD bins v 0 + markedIn (laneOf (wordAt acc)) (onward (64 * start) (storedBit S words)) bits n v
-      go zero l = without ∙ ap (λ (x : ℕ). getD bins 0 0 + x) (counted 18446744073709551615 0 (lit< tt) refl)
-      go (suc zero) l = with ∙ ap (λ (x : ℕ). getD bins 1 0 + x) (counted 0 1 (lit< tt) refl)
+      go : (v : ℕ) → v < 2 → getD bins′ v 0 ≡ getD bins v 0 + markedIn (laneOf word) (onward (64 * start) (storedBit S words)) bits n v
+      go zero l = without ∙ ap (λ (x : ℕ). getD bins 0 0 + x) (one-bin 18446744073709551615 0 one (lit< tt) refl)
+      go (suc zero) l = with ∙ ap (λ (x : ℕ). getD bins 1 0 + x) (one-bin 0 1 one (lit< tt) refl)
       go (suc (suc v)) l = absurd (omega arith)
 
-  -- and so of the words that hold them ANDed
-  part-lanes : (part : List ℕ) (flip y : ℕ) → y < 2 → flip ≡ (1 - y) * (2 ^ 64 - 1) → at + (n + 63) / 64 ≤ length words
-      → ((t : ℕ) → t < length (partAt words at ((n + 63) / 64)) → getD part t 0 ≡ wordWith acc (partAt words at ((n + 63) / 64)) flip t)
-      → (e : ℕ) → e < n → laneOf (wordAt part) e ≡ min (laneOf (wordAt acc) e) (same (storedBit S words (64 * start + e) (getD bits last 0)) y)
+  -- and so of words that hold them ANDed
+  part-lanes : (part : ℕ → ℕ) (flip y : ℕ) → y < 2 → flip ≡ (1 - y) * (2 ^ 64 - 1) → at + (n + 63) / 64 ≤ length words
+      → ((t : ℕ) → t < length (partAt words at ((n + 63) / 64)) → part t ≡ wordWith word (partAt words at ((n + 63) / 64)) flip t)
+      → (e : ℕ) → e < n → laneOf part e ≡ min (laneOf word e) (same (storedBit S words (64 * start + e) (getD bits last 0)) y)
   part-lanes part flip y hy ef room step e h =
       let long : length (partAt words at ((n + 63) / 64)) ≡ (n + 63) / 64 = simp (length-take, length-drop) (omega arith) in
-      lane-of (wordAt part) (wordWith acc (partAt words at ((n + 63) / 64)) flip) e (step (e / 64) (omega arith)) ∙ by-last flip y e h hy ef
+      lane-of part (wordWith word (partAt words at ((n + 63) / 64)) flip) e (step (e / 64) (omega arith)) ∙ by-last flip y e h hy ef
 
-  -- what the marks that are left count in the bins of the other bits is what acc counts in those with the last bit y
-  by-half : (part : List ℕ) (flip y v : ℕ) → y < 2 → flip ≡ (1 - y) * (2 ^ 64 - 1) → v < 2 ^ last → at + (n + 63) / 64 ≤ length words
-      → ((t : ℕ) → t < length (partAt words at ((n + 63) / 64)) → getD part t 0 ≡ wordWith acc (partAt words at ((n + 63) / 64)) flip t)
-      → markedIn (laneOf (wordAt part)) (onward (64 * start) (storedBit S words)) (take last bits) n v
-      ≡ markedIn (laneOf (wordAt acc)) (onward (64 * start) (storedBit S words)) bits n (y * 2 ^ last + v)
+  -- what the marks that are left count in the bins of the other bits is what the words count in those with the last bit y
+  by-half : (part : ℕ → ℕ) (flip y v : ℕ) → y < 2 → flip ≡ (1 - y) * (2 ^ 64 - 1) → v < 2 ^ last → at + (n + 63) / 64 ≤ length words
+      → ((t : ℕ) → t < length (partAt words at ((n + 63) / 64)) → part t ≡ wordWith word (partAt words at ((n + 63) / 64)) flip t)
+      → markedIn (laneOf part) (onward (64 * start) (storedBit S words)) (take last bits) n v
+      ≡ markedIn (laneOf word) (onward (64 * start) (storedBit S words)) bits n (y * 2 ^ last + v)
   by-half part flip y v hy ef hv room step =
       let k : length (take last bits) ≡ last = length-take-le last bits (omega arith) in
       let bit = onward (64 * start) (storedBit S words) in
       let hv′ : v < 2 ^ length (take last bits) = rw k hv in
-      marked-last (laneOf (wordAt acc)) (laneOf (wordAt part)) bit (λ e. stored-lt S words (64 * start + e)) (take last bits) (getD bits last 0) n y v hv′ (part-lanes part flip y hy ef room step)
-      ∙ ap₂ (λ (l : List ℕ) (j : ℕ). markedIn (laneOf (wordAt acc)) bit l n (y * 2 ^ j + v)) (sym (snoc-last bits last many)) k
+      marked-last (laneOf word) (laneOf part) bit (λ e. stored-lt S words (64 * start + e)) (take last bits) (getD bits last 0) n y v hv′ (part-lanes part flip y hy ef room step)
+      ∙ ap₂ (λ (l : List ℕ) (j : ℕ). markedIn (laneOf word) bit l n (y * 2 ^ j + v)) (sym (snoc-last bits last many)) k
 
   -- both halves
-  pub halves : (bins upper lower part part′ : List ℕ) (half : ℕ) → half ≡ 2 ^ last → length bins ≡ half + half → at + (n + 63) / 64 ≤ length words
+  pub halves : (bins upper lower : List ℕ) (part part′ : ℕ → ℕ) (half : ℕ) → half ≡ 2 ^ last → length bins ≡ half + half → at + (n + 63) / 64 ≤ length words
       → length upper ≡ length (midOf half (length bins - half) bins)
       → length lower ≡ length (take half (putMid half (length bins - half) bins upper))
-      → ((t : ℕ) → t < length (partAt words at ((n + 63) / 64)) → getD part t 0 ≡ wordWith acc (partAt words at ((n + 63) / 64)) 0 t)
-      → ((t : ℕ) → t < length (partAt words at ((n + 63) / 64)) → getD part′ t 0 ≡ wordWith acc (partAt words at ((n + 63) / 64)) 18446744073709551615 t)
-      → ((v : ℕ) → v < length (midOf half (length bins - half) bins) → getD upper v 0 ≡ getD (midOf half (length bins - half) bins) v 0 + markedIn (laneOf (wordAt part)) (onward (64 * start) (storedBit S words)) (take last bits) n v)
-      → ((v : ℕ) → v < length (take half (putMid half (length bins - half) bins upper)) → getD lower v 0 ≡ getD (take half (putMid half (length bins - half) bins upper)) v 0 + markedIn (laneOf (wordAt part′)) (onward (64 * start) (storedBit S words)) (take last bits) n v)
+      → ((t : ℕ) → t < length (partAt words at ((n + 63) / 64)) → part t ≡ wordWith word (partAt words at ((n + 63) / 64)) 0 t)
+      → ((t : ℕ) → t < length (partAt words at ((n + 63) / 64)) → part′ t ≡ wordWith word (partAt words at ((n + 63) / 64)) 18446744073709551615 t)
+      → ((v : ℕ) → v < length (midOf half (length bins - half) bins) → getD upper v 0 ≡ getD (midOf half (length bins - half) bins) v 0 + markedIn (laneOf part) (onward (64 * start) (storedBit S words)) (take last bits) n v)
+      → ((v : ℕ) → v < length (take half (putMid half (length bins - half) bins upper)) → getD lower v 0 ≡ getD (take half (putMid half (length bins - half) bins upper)) v 0 + markedIn (laneOf part′) (onward (64 * start) (storedBit S words)) (take last bits) n v)
       → (v : ℕ) → v < length bins
       → getD (lower ++ drop half (putMid half (length bins - half) bins upper)) v 0
-      ≡ getD bins v 0 + markedIn (laneOf (wordAt acc)) (onward (64 * start) (storedBit S words)) bits n v
+      ≡ getD bins v 0 + markedIn (laneOf word) (onward (64 * start) (storedBit S words)) bits n v
   halves bins upper lower part part′ half power twice room upper-kept lower-kept step step′ up low v h = by-side (decLt v half)
     where
       bit : ℕ → ℕ → ℕ
@@ -149,7 +147,7 @@ module _ (words : List ℕ) (S start n : ℕ) (bits : List ℕ) (last at : ℕ) 
       lower-is : length lower ≡ half
       lower-is = lower-kept ∙ lower-size bins upper half (length bins - half) twice
 
-      by-side : Dec (v < half) → getD (lower ++ drop half (putMid half (length bins - half) bins upper)) v 0 ≡ getD bins v 0 + markedIn (laneOf (wordAt acc)) bit bits n v
+      by-side : Dec (v < half) → getD (lower ++ drop half (putMid half (length bins - half) bins upper)) v 0 ≡ getD bins v 0 + markedIn (laneOf word) bit bits n v
       by-side (yes below) =
           let inside : v < length lower = rw lower-is below in
           let inside′ : v < length (take half (putMid half (length bins - half) bins upper)) = rw (first, low-size) below in
@@ -157,7 +155,7 @@ module _ (words : List ℕ) (S start n : ℕ) (bits : List ℕ) (last at : ℕ) 
           let none : 0 * 2 ^ last + v ≡ v = omega arith in
           List·getD-append lower _ 0 v inside ∙ low v inside′
           ∙ ap₂ _+_ (ap (λ (l : List ℕ). getD l v 0) first ∙ getD-take half bins v 0 below)
-          (by-half part′ 18446744073709551615 0 v (lit< tt) refl small room step′ ∙ ap (markedIn (laneOf (wordAt acc)) bit bits n) none)
+          (by-half part′ 18446744073709551615 0 v (lit< tt) refl small room step′ ∙ ap (markedIn (laneOf word) bit bits n) none)
       by-side (no above) =
           let w = v - half in
           let e : v ≡ half + w = omega arith in
@@ -169,4 +167,30 @@ module _ (words : List ℕ) (S start n : ℕ) (bits : List ℕ) (last at : ℕ) 
           ap (λ (k : ℕ). getD (lower ++ drop half (putMid half (length bins - half) bins upper)) k 0) e
           ∙ upper-entry bins upper lower half (length bins - half) w (omega arith) lower-is inside ∙ up w inside′
           ∙ ap₂ _+_ (getD-take (length bins - half) (drop half bins) w 0 (omega arith) ∙ getD-drop half bins w 0 ∙ ap (λ (k : ℕ). getD bins k 0) (sym e))
-          (by-half part 0 1 w (lit< tt) refl small room step ∙ ap (markedIn (laneOf (wordAt acc)) bit bits n) back)
+          (by-half part 0 1 w (lit< tt) refl small room step ∙ ap (markedIn (laneOf word) bit bits n) back)
+
+-- two bits: four bins
+module _ (words : List ℕ) (S start n : ℕ) (bits : List ℕ) (low high : ℕ) (two : length bits ≡ 2)
+    (here : low ≡ getD bits 0 0 * S + start) (there : high ≡ getD bits 1 0 * S + start) (room : high + (n + 63) / 64 ≤ length words) (word : ℕ → ℕ) where
+  one-of-four : (hf lf y x : ℕ) → y < 2 → hf ≡ (1 - y) * (2 ^ 64 - 1) → x < 2 → lf ≡ (1 - x) * (2 ^ 64 - 1)
+      → sumTo (laneOf (wordWith (wordWith word (partAt words high ((n + 63) / 64)) hf) (partAt words low ((n + 63) / 64)) lf)) n
+      ≡ markedIn (laneOf word) (onward (64 * start) (storedBit S words)) bits n (y * 2 ^ 1 + x)
+  one-of-four hf lf y x hy eh hx el =
+      let single : length (take 1 bits) ≡ 1 = length-take-le 1 bits (omega arith) in
+      let first : low ≡ getD (take 1 bits) 0 0 * S + start = here ∙ ap (λ (b : ℕ). b * S + start) (sym (getD-take 1 bits 0 0 (lit< tt))) in
+      let part = wordWith word (partAt words high ((n + 63) / 64)) hf in
+      one-bin words S start n (take 1 bits) 0 low single first part lf x refl hx el
+      ∙ by-half words S start n bits 1 high two there word part hf y x hy eh hx room (λ t h. refl)
+
+  pub four-bins : (bins bins′ : List ℕ) → length bins ≡ 4
+      → Parted (wordWith word (partAt words high ((n + 63) / 64)) 18446744073709551615) (partAt words low ((n + 63) / 64)) n 0 bins bins′
+      → Parted (wordWith word (partAt words high ((n + 63) / 64)) 0) (partAt words low ((n + 63) / 64)) n 2 bins bins′
+      → (v : ℕ) → v < length bins → getD bins′ v 0 ≡ getD bins v 0 + markedIn (laneOf word) (onward (64 * start) (storedBit S words)) bits n v
+  four-bins bins bins′ four (b0, b1) (b2, b3) v h = go v (omega arith)
+    where
+      go : (v : ℕ) → v < 4 → getD bins′ v 0 ≡ getD bins v 0 + markedIn (laneOf word) (onward (64 * start) (storedBit S words)) bits n v
+      go zero l = b0 ∙ ap (λ (x : ℕ). getD bins 0 0 + x) (one-of-four 18446744073709551615 18446744073709551615 0 0 (lit< tt) refl (lit< tt) refl)
+      go (suc zero) l = b1 ∙ ap (λ (x : ℕ). getD bins 1 0 + x) (one-of-four 18446744073709551615 0 0 1 (lit< tt) refl (lit< tt) refl)
+      go (suc (suc zero)) l = b2 ∙ ap (λ (x : ℕ). getD bins 2 0 + x) (one-of-four 0 18446744073709551615 1 0 (lit< tt) refl (lit< tt) refl)
+      go (suc (suc (suc zero))) l = b3 ∙ ap (λ (x : ℕ). getD bins 3 0 + x) (one-of-four 0 0 1 1 (lit< tt) refl (lit< tt) refl)
+      go (suc (suc (suc (suc v)))) l = absurd (omega arith)

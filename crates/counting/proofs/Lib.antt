@@ -4,6 +4,5 @@ pub mod Accepted
 pub mod Recorded
 pub mod Counts
 pub mod Marks
-pub mod Adders
 pub mod Tallying
 pub mod Halves

@@ -15,7 +15,7 @@ use Rattle.counting.specs.Block.{bitAt, binOf}
 use Rattle.counting.specs.Sample.{same, countIn, sumTo, allSet}
 use Rattle.counting.specs.Tally.{laneOf, wordAt, wordWith}
 use Rattle.counting.specs.Words.{storedBit}
-use Rattle.counting.specs.Rows.{onward, Marks, Extended, Room, markedIn}
+use Rattle.counting.specs.Rows.{onward, Marks, Extended, CountRoom, markedIn}
 use Rattle.counting.proofs.Lanes.{bit-lt, bit-zero, bit-and, bit-xor, bit-ones}
 use Rattle.counting.proofs.Counts.{same-le, same-step, bin-lt, bin-snoc, sum-ext, count-more, count-le}
 
@@ -75,12 +75,12 @@ module _ (words : List ℕ) (S start b at m : ℕ) (here : at ≡ b * S + start)
       ∙ ap (λ (k : ℕ). getD words (k + e / 64) 0) here ∙ ap (λ (k : ℕ). getD words k 0) (add-assoc (b * S) start (e / 64))))
 
   -- the row ANDed in, flipped where y is 0
-  pub with-row : (acc : List ℕ) (flip y e : ℕ) → e / 64 < m → y < 2 → flip ≡ (1 - y) * (2 ^ 64 - 1)
-      → laneOf (wordWith acc (partAt words at m) flip) e ≡ min (laneOf (wordAt acc) e) (same (storedBit S words (64 * start + e) b) y)
+  pub with-row : (word : ℕ → ℕ) (flip y e : ℕ) → e / 64 < m → y < 2 → flip ≡ (1 - y) * (2 ^ 64 - 1)
+      → laneOf (wordWith word (partAt words at m) flip) e ≡ min (laneOf word e) (same (storedBit S words (64 * start + e) b) y)
   unfolding laneOf wordWith
-  with-row acc flip y e h hy ef =
+  with-row word flip y e h hy ef =
       let l = e % 64 in
-      let x = getD acc (e / 64) 0 in
+      let x = word (e / 64) in
       let w = getD (partAt words at m) (e / 64) 0 in
       let hl : l < 64 = omega arith in
       ap (λ (f : ℕ). bitAt (bitAnd x (bitXor w f)) l) ef ∙ bit-and x (bitXor w ((1 - y) * (2 ^ 64 - 1))) l
@@ -138,7 +138,7 @@ extended-more acc bit low base n bits b marked =
 
 -- as many blocks more fit the counts as the sample has
 pub extended-room : (bit : ℕ → ℕ → ℕ) (base n : ℕ) (bits : List ℕ) (next : ℕ) (counts : List ℕ) → base + n ≤ 16777216
-    → Extended bit base bits next counts → Room n counts
+    → Extended bit base bits next counts → CountRoom n counts
 extended-room bit base n bits next counts fits held v h =
     let all = bits ++ ((next + v) ∷ []) in
     omega (arith, held v h, count-le bit base all (2 ^ length all - 1))
@@ -156,7 +156,7 @@ counted-more lane bit base n bits v ones =
     (λ e h. omega (arith, same-le (binOf (bit (base + e)) bits) v, ones e h)))
 
 pub counted-room : (bit : ℕ → ℕ → ℕ) (base n : ℕ) (bits bins : List ℕ) → base + n ≤ 16777216
-    → ((v : ℕ) → v < length bins → getD bins v 0 ≡ countIn bit base bits v) → Room n bins
+    → ((v : ℕ) → v < length bins → getD bins v 0 ≡ countIn bit base bits v) → CountRoom n bins
 counted-room bit base n bits bins fits held v h = omega (arith, held v h, count-le bit base bits v)
 
 -- the bins of one bit

@@ -3,11 +3,26 @@ use mathlib.Core.Path.{_≡_, refl, sym, ap, _∙_}
 use Prim.Native.Nat.{ℕ, zero, suc, _+_, _*_, _/_, _%_, _^_, _≤_, _<_}
 use native.Mathlib.Omega.{arith}
 use native.Mathlib.Nat.{mod-eq-of-lt, le-refl}
+use mathlib.Core.List.{List}
+use lib.Bits.{bitAnd, bitXor, and-lt, xor-lt}
 use lib.Count.{ones}
+use lib.ListN.{getD}
 use Rattle.counting.specs.Block.{bitAt}
 use Rattle.counting.specs.Sample.{sumTo}
-use Rattle.counting.specs.Tally.{laneOf}
+use Rattle.counting.specs.Tally.{laneOf, wordWith}
 use Rattle.counting.proofs.Counts.{sum-ext, sum-more, ones-lanes}
+
+-- a word with a row's, as the code has it
+pub anded-word : (word : ℕ → ℕ) (row : List ℕ) (flip t x y : ℕ) → x ≡ word t → y ≡ bitAnd x (bitXor (getD row t 0) flip) → y ≡ wordWith word row flip t
+unfolding wordWith
+anded-word word row flip t x y ex ey = ey ∙ ap (λ (w : ℕ). bitAnd w (bitXor (getD row t 0) flip)) ex
+
+-- it is one of 64 bits where both are
+pub with-small : (word : ℕ → ℕ) (row : List ℕ) (flip : ℕ) → ((t : ℕ) → word t < 2 ^ 64) → ((t : ℕ) → getD row t 0 < 2 ^ 64) → flip < 2 ^ 64
+    → (t : ℕ) → wordWith word row flip t < 2 ^ 64
+unfolding wordWith
+with-small word row flip words rows small t =
+    and-lt 64 (word t) (bitXor (getD row t 0) flip) (words t) (xor-lt 64 (getD row t 0) flip (rows t) small)
 
 -- lane l of word m
 lane-in : (word : ℕ → ℕ) (m l : ℕ) → l < 64 → laneOf word (64 * m + l) ≡ bitAt (word m) l

@@ -5,7 +5,7 @@ use mathlib.Core.List.{List, [], _∷_, _++_}
 use lib.ListN.{length, getD}
 use Rattle.counting.specs.Block.{binOf}
 use Rattle.counting.specs.Sample.{same, sumTo, allSet}
-use Rattle.counting.specs.Tally.{laneOf, wordAt}
+use Rattle.counting.specs.Tally.{laneOf, wordAt, wordWith}
 
 -- the row of each of the bits lies within the words
 abbrev pub RowsIn : List ℕ → ℕ → List ℕ → Type 0
@@ -36,5 +36,11 @@ abbrev pub Extended : (ℕ → ℕ → ℕ) → ℕ → List ℕ → ℕ → Lis
 Extended bit n bits next counts = (j : ℕ) → j < length counts → getD counts j 0 ≡ allSet bit n (bits ++ ((next + j) ∷ []))
 
 -- n blocks more fit each count
-abbrev pub Room : ℕ → List ℕ → Type 0
-Room n counts = (v : ℕ) → v < length counts → getD counts v 0 + n ≤ 16777216
+abbrev pub CountRoom : ℕ → List ℕ → Type 0
+CountRoom n counts = (v : ℕ) → v < length counts → getD counts v 0 + n ≤ 16777216
+
+-- bins `at` and `at` + 1 have grown by the set lanes of the words: the first by those that the row's bit is not set in, the second by the others
+abbrev pub Parted : (ℕ → ℕ) → List ℕ → ℕ → ℕ → List ℕ → List ℕ → Type 0
+Parted word row n at bins bins′ =
+    (getD bins′ at 0 ≡ getD bins at 0 + sumTo (laneOf (wordWith word row 18446744073709551615)) n)
+    × (getD bins′ (at + 1) 0 ≡ getD bins (at + 1) 0 + sumTo (laneOf (wordWith word row 0)) n)

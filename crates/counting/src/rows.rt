@@ -7,7 +7,8 @@ ghost use lib.ListN.{length, getD, replicate};
 ghost use Rattle.counting.specs.Sample.{sumTo, allSet, countsOf};
 ghost use Rattle.counting.specs.Tally.{laneOf, wordAt, wordWith};
 ghost use Rattle.counting.specs.Words.{storedBit};
-ghost use Rattle.counting.specs.Rows.{RowsIn, BlocksIn, ChunkIn, onward, Marks, Extended, Room, markedIn};
+ghost use Rattle.counting.specs.Rows.{RowsIn, BlocksIn, ChunkIn, onward, Marks, Extended, CountRoom, markedIn, Parted};
+use crate::tally::count_both;
 use crate::tally::count_with;
 
 // For each bit from `next` on, as many as counts has entries: how many of the first n blocks have it and all the bits set.
@@ -135,7 +136,7 @@ fn add_each(
 )
     requires { ⌜ ChunkIn stride start n × (512 ≤ length (now acc)) ⌝ }
     requires { ⌜ (next + length (now counts) < 4294967296) × ((next + length (now counts)) * stride ≤ length (now words)) ⌝ }
-    requires { ⌜ Room n (now counts) ⌝ }
+    requires { ⌜ CountRoom n (now counts) ⌝ }
     ensures { λ _. ⌜ ((j : ℕ) → j < length (now (counts .entry)) → getD (now (counts .exit)) j 0 ≡ getD (now (counts .entry)) j 0 + markedIn (laneOf (wordAt (now (acc .entry)))) (onward (64 * start) (storedBit stride (now (words .entry)))) ((next + j) ∷ []) n 1) ⌝ }
 {
     let m = (n + 63) / 64;
@@ -163,14 +164,14 @@ fn add_bins(
     requires { ⌜ (1 ≤ length (now bits)) × (length (now bits) ≤ 20) × (length (now bins) ≡ 2 ^ length (now bits)) ⌝ }
     requires { ⌜ RowsIn (now words) stride (now bits) ⌝ }
     requires { ⌜ ChunkIn stride start n × (512 ≤ length (now acc)) ⌝ }
-    requires { ⌜ Room n (now bins) ⌝ }
+    requires { ⌜ CountRoom n (now bins) ⌝ }
     ensures { λ _. ⌜ ((v : ℕ) → v < length (now (bins .entry)) → getD (now (bins .exit)) v 0 ≡ getD (now (bins .entry)) v 0 + markedIn (laneOf (wordAt (now (acc .entry)))) (onward (64 * start) (storedBit stride (now (words .entry)))) (now (bits .entry)) n v) ⌝ }
 {
     let last = bits.len() - 1;
     let at = bits[last] as usize * stride + start;
     let end = at + (n + 63) / 64;
-    if last == 0 {
-        add_two(acc, &words[at..end], n, bins);
+    if last < 2 {
+        add_few(acc, words, stride, start, n, bits, bins);
         return;
     }
     let half = bins.len() / 2;
@@ -197,11 +198,39 @@ fn add_bins(
     );
 }
 
+// The same for one bit or two, with no marks between.
+fn add_few(
+    acc: &[u64],
+    words: &[u64],
+    stride: usize,
+    start: usize,
+    n: usize,
+    bits: &[u32],
+    bins: &mut [u32],
+)
+    requires { ⌜ (1 ≤ length (now bits)) × (length (now bits) ≤ 2) × (length (now bins) ≡ 2 ^ length (now bits)) ⌝ }
+    requires { ⌜ RowsIn (now words) stride (now bits) ⌝ }
+    requires { ⌜ ChunkIn stride start n × (512 ≤ length (now acc)) ⌝ }
+    requires { ⌜ CountRoom n (now bins) ⌝ }
+    ensures { λ _. ⌜ ((v : ℕ) → v < length (now (bins .entry)) → getD (now (bins .exit)) v 0 ≡ getD (now (bins .entry)) v 0 + markedIn (laneOf (wordAt (now (acc .entry)))) (onward (64 * start) (storedBit stride (now (words .entry)))) (now (bits .entry)) n v) ⌝ }
+{
+    let m = (n + 63) / 64;
+    let low = bits[0] as usize * stride + start;
+    let low_end = low + m;
+    if bits.len() == 1 {
+        add_two(acc, &words[low..low_end], n, bins);
+        return;
+    }
+    let high = bits[1] as usize * stride + start;
+    let high_end = high + m;
+    add_four(acc, &words[high..high_end], &words[low..low_end], n, bins);
+}
+
 // The two bins of one bit.
 fn add_two(acc: &[u64], row: &[u64], n: usize, bins: &mut [u32])
     requires { ⌜ (n ≤ 64 * length (now row)) × (length (now row) ≤ length (now acc)) × (n ≤ 32768) ⌝ }
-    requires { ⌜ (length (now bins) ≡ 2) × Room n (now bins) ⌝ }
-    ensures { λ _. ⌜ (getD (now (bins .exit)) 0 0 ≡ getD (now (bins .entry)) 0 0 + sumTo (laneOf (wordWith (now (acc .entry)) (now (row .entry)) 18446744073709551615)) n) × (getD (now (bins .exit)) 1 0 ≡ getD (now (bins .entry)) 1 0 + sumTo (laneOf (wordWith (now (acc .entry)) (now (row .entry)) 0)) n) ⌝ }
+    requires { ⌜ (length (now bins) ≡ 2) × CountRoom n (now bins) ⌝ }
+    ensures { λ _. ⌜ Parted (wordAt (now (acc .entry))) (now (row .entry)) n 0 (now (bins .entry)) (now (bins .exit)) ⌝ }
 {
     let without = count_with(acc, row, u64::MAX, n);
     bins[0] = bins[0] + without;
@@ -209,10 +238,25 @@ fn add_two(acc: &[u64], row: &[u64], n: usize, bins: &mut [u32])
     bins[1] = bins[1] + with;
 }
 
+// The four bins of two bits.
+fn add_four(acc: &[u64], high: &[u64], low: &[u64], n: usize, bins: &mut [u32])
+    requires { ⌜ (n ≤ 64 * length (now high)) × (length (now high) ≤ length (now acc)) × (length (now low) ≡ length (now high)) × (n ≤ 32768) ⌝ }
+    requires { ⌜ (length (now bins) ≡ 4) × CountRoom n (now bins) ⌝ }
+    ensures { λ _. ⌜ Parted (wordWith (wordAt (now (acc .entry))) (now (high .entry)) 18446744073709551615) (now (low .entry)) n 0 (now (bins .entry)) (now (bins .exit)) ⌝ }
+    ensures { λ _. ⌜ Parted (wordWith (wordAt (now (acc .entry))) (now (high .entry)) 0) (now (low .entry)) n 2 (now (bins .entry)) (now (bins .exit)) ⌝ }
+{
+    let lower = count_both(acc, high, u64::MAX, low, n);
+    let upper = count_both(acc, high, 0, low, n);
+    bins[0] = bins[0] + lower.without;
+    bins[1] = bins[1] + lower.with;
+    bins[2] = bins[2] + upper.without;
+    bins[3] = bins[3] + upper.with;
+}
+
 // Puts acc and a row, flipped, ANDed into the first words of `to`.
 fn and_to(to: &mut [u64], acc: &[u64], row: &[u64], flip: u64)
     requires { ⌜ (length (now row) ≤ length (now acc)) × (length (now row) ≤ length (now to)) ⌝ }
-    ensures { λ _. ⌜ ((t : ℕ) → t < length (now (row .entry)) → getD (now (to .exit)) t 0 ≡ wordWith (now (acc .entry)) (now (row .entry)) flip t) ⌝ }
+    ensures { λ _. ⌜ ((t : ℕ) → t < length (now (row .entry)) → getD (now (to .exit)) t 0 ≡ wordWith (wordAt (now (acc .entry))) (now (row .entry)) flip t) ⌝ }
 {
     let mut t: usize = 0;
     while t < row.len() {

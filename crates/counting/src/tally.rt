@@ -1,22 +1,23 @@
-// Counts set lanes of words that are ANDed as they are read, so that nothing is stored between. Whole words are counted by full adders,
-// sixteen in five counts; the loops run over consecutive words and have no branch, so that they vectorise.
+// Counts set lanes of words that are ANDed as they are read, so that nothing is stored between. Each word is totalled by the language's
+// count of ones; the loops run over consecutive words and have no branch, so that they vectorise.
 ghost use mathlib.Core.Path.{_≡_};
-ghost use Prim.Native.Nat.{_+_, _*_, _%_, _^_, _≤_, _<_};
+ghost use Prim.Native.Nat.{_*_, _%_, _^_, _≤_, _<_};
+ghost use lib.Bits.{bitAnd, bitXor};
 ghost use lib.Count.{ones};
 ghost use lib.ListN.{length};
 ghost use Rattle.counting.specs.Sample.{sumTo};
-ghost use Rattle.counting.specs.Tally.{laneOf, wordWith, onesWith, threeOf, sixteenOf};
+ghost use Rattle.counting.specs.Tally.{laneOf, wordAt, wordWith, onesIn};
 
-// Three words added lane by lane: the low and the high digits of the sums.
-struct Sum {
-    low: u64,
-    high: u64,
+// How many lanes are set where a row's are not, and where they are.
+pub struct Both {
+    pub without: u32,
+    pub with: u32,
 }
 
 // How many of the first n lanes of acc and a row, flipped, are set in both.
 pub fn count_with(acc: &[u64], row: &[u64], flip: u64, n: usize) -> u32
     requires { ⌜ (n ≤ 64 * length (now row)) × (length (now row) ≤ length (now acc)) × (n ≤ 32768) ⌝ }
-    ensures { λ r. ⌜ (r ≡ sumTo (laneOf (wordWith (now (acc .entry)) (now (row .entry)) flip)) n) × (r ≤ n) ⌝ }
+    ensures { λ r. ⌜ (r ≡ sumTo (laneOf (wordWith (wordAt (now (acc .entry))) (now (row .entry)) flip)) n) × (r ≤ n) ⌝ }
 {
     let full = n / 64;
     let rest = n % 64;
@@ -28,108 +29,81 @@ pub fn count_with(acc: &[u64], row: &[u64], flip: u64, n: usize) -> u32
     }
 }
 
-// The first m words: as many as there are in groups of 64, the others one by one.
+// The set lanes of the first m words.
 fn count_words(acc: &[u64], row: &[u64], flip: u64, m: usize) -> u32
     requires { ⌜ (m ≤ length (now row)) × (length (now row) ≤ length (now acc)) × (m ≤ 512) ⌝ }
-    ensures { λ r. ⌜ (r ≡ sumTo (onesWith (now (acc .entry)) (now (row .entry)) flip) m) × (r ≤ 64 * m) ⌝ }
+    ensures { λ r. ⌜ (r ≡ sumTo (onesIn (wordWith (wordAt (now (acc .entry))) (now (row .entry)) flip)) m) × (r ≤ 64 * m) ⌝ }
 {
-    let mut sum: u32 = 0;
+    let mut sum: u64 = 0;
     let mut t: usize = 0;
-    while t + 64 <= m {
-        sum += count_64(acc, row, flip, t);
-        t += 64;
-    }
-    sum + count_each(acc, row, flip, t, m)
-}
-
-// The words from `from` to m, each by itself.
-fn count_each(acc: &[u64], row: &[u64], flip: u64, from: usize, m: usize) -> u32
-    requires { ⌜ (from ≤ m) × (m ≤ length (now row)) × (length (now row) ≤ length (now acc)) × (m ≤ 512) ⌝ }
-    ensures { λ r. ⌜ (sumTo (onesWith (now (acc .entry)) (now (row .entry)) flip) m ≡ sumTo (onesWith (now (acc .entry)) (now (row .entry)) flip) from + r) × (64 * from + r ≤ 64 * m) ⌝ }
-{
-    let mut sum: u32 = 0;
-    let mut t = from;
     while t < m {
-        sum += u64::count_ones(word(acc, row, flip, t));
+        sum += ones_of(word(acc, row, flip, t));
         t += 1;
     }
-    sum
+    sum as u32
 }
 
-// The 64 words from `from` on, in 4 columns of 16.
-fn count_64(acc: &[u64], row: &[u64], flip: u64, from: usize) -> u32
-    requires { ⌜ (from + 64 ≤ length (now row)) × (length (now row) ≤ length (now acc)) ⌝ }
-    ensures { λ r. ⌜ (sumTo (onesWith (now (acc .entry)) (now (row .entry)) flip) (from + 64) ≡ sumTo (onesWith (now (acc .entry)) (now (row .entry)) flip) from + r) × (r ≤ 4096) ⌝ }
+// How many of the first n lanes of acc and the high row, flipped, are set, by the low row: what the two have in common is ANDed once.
+pub fn count_both(acc: &[u64], high: &[u64], flip: u64, low: &[u64], n: usize) -> Both
+    requires { ⌜ (n ≤ 64 * length (now high)) × (length (now high) ≤ length (now acc)) × (length (now low) ≡ length (now high)) × (n ≤ 32768) ⌝ }
+    ensures { λ r. ⌜ (r .without ≡ sumTo (laneOf (wordWith (wordWith (wordAt (now (acc .entry))) (now (high .entry)) flip) (now (low .entry)) 18446744073709551615)) n) × (r .without ≤ n) ⌝ }
+    ensures { λ r. ⌜ (r .with ≡ sumTo (laneOf (wordWith (wordWith (wordAt (now (acc .entry))) (now (high .entry)) flip) (now (low .entry)) 0)) n) × (r .with ≤ n) ⌝ }
 {
-    let mut sum: u32 = 0;
+    let full = n / 64;
+    let rest = n % 64;
+    let sums = both_words(acc, high, flip, low, full);
+    if rest > 0 {
+        let w = word(acc, high, flip, full);
+        Both {
+            without: sums.without + ones_below(anded(w, low[full], u64::MAX), rest as u32),
+            with: sums.with + ones_below(anded(w, low[full], 0), rest as u32),
+        }
+    } else {
+        sums
+    }
+}
+
+// The same of the first m words.
+fn both_words(acc: &[u64], high: &[u64], flip: u64, low: &[u64], m: usize) -> Both
+    requires { ⌜ (m ≤ length (now high)) × (length (now high) ≤ length (now acc)) × (length (now low) ≡ length (now high)) × (m ≤ 512) ⌝ }
+    ensures { λ r. ⌜ (r .without ≡ sumTo (onesIn (wordWith (wordWith (wordAt (now (acc .entry))) (now (high .entry)) flip) (now (low .entry)) 18446744073709551615)) m) × (r .without ≤ 64 * m) ⌝ }
+    ensures { λ r. ⌜ (r .with ≡ sumTo (onesIn (wordWith (wordWith (wordAt (now (acc .entry))) (now (high .entry)) flip) (now (low .entry)) 0)) m) × (r .with ≤ 64 * m) ⌝ }
+{
+    let mut without: u64 = 0;
+    let mut with: u64 = 0;
     let mut t: usize = 0;
-    while t < 4 {
-        sum += sixteen(acc, row, flip, from + t);
+    while t < m {
+        let w = word(acc, high, flip, t);
+        without += ones_of(anded(w, low[t], u64::MAX));
+        with += ones_of(anded(w, low[t], 0));
         t += 1;
     }
-    sum
-}
-
-// Sixteen words, four apart: eleven adders leave five words to count, of weights 1, 1, 2, 4 and 8.
-fn sixteen(acc: &[u64], row: &[u64], flip: u64, t: usize) -> u32
-    requires { ⌜ (t + 60 < length (now row)) × (length (now row) ≤ length (now acc)) ⌝ }
-    ensures { λ r. ⌜ (r ≡ sixteenOf (onesWith (now (acc .entry)) (now (row .entry)) flip) t) × (r ≤ 1024) ⌝ }
-{
-    let a = three(acc, row, flip, t);
-    let b = three(acc, row, flip, t + 12);
-    let c = three(acc, row, flip, t + 24);
-    let d = three(acc, row, flip, t + 36);
-    let e = three(acc, row, flip, t + 48);
-    let f = add(a.low, b.low, c.low);
-    let g = add(f.low, d.low, e.low);
-    let h = add(a.high, b.high, c.high);
-    let i = add(h.low, d.high, e.high);
-    let j = add(i.low, f.high, g.high);
-    let k = add(h.high, i.high, j.high);
-    let last = word(acc, row, flip, t + 60);
-    weighed(last, g.low, j.low, k.low, k.high)
-}
-
-// The set bits of words of weights 1, 1, 2, 4 and 8.
-fn weighed(a: u64, b: u64, two: u64, four: u64, eight: u64) -> u32
-    ensures { λ r. ⌜ (r ≡ ones a + ones b + 2 * ones two + 4 * ones four + 8 * ones eight) × (r ≤ 1024) ⌝ }
-{
-    u64::count_ones(a)
-        + u64::count_ones(b)
-        + 2 * u64::count_ones(two)
-        + 4 * u64::count_ones(four)
-        + 8 * u64::count_ones(eight)
-}
-
-// Three words, four apart.
-fn three(acc: &[u64], row: &[u64], flip: u64, t: usize) -> Sum
-    requires { ⌜ (t + 8 < length (now row)) × (length (now row) ≤ length (now acc)) ⌝ }
-    ensures { λ r. ⌜ threeOf (onesWith (now (acc .entry)) (now (row .entry)) flip) t ≡ ones (r .low) + 2 * ones (r .high) ⌝ }
-{
-    add(
-        word(acc, row, flip, t),
-        word(acc, row, flip, t + 4),
-        word(acc, row, flip, t + 8),
-    )
-}
-
-// A full adder in each lane.
-fn add(a: u64, b: u64, c: u64) -> Sum
-    ensures { λ r. ⌜ ones a + ones b + ones c ≡ ones (r .low) + 2 * ones (r .high) ⌝ }
-{
-    let x = a ^ b;
-    Sum {
-        low: x ^ c,
-        high: (a & b) | (x & c),
+    Both {
+        without: without as u32,
+        with: with as u32,
     }
 }
 
 // Word t of acc ANDed with the row's, flipped.
 fn word(acc: &[u64], row: &[u64], flip: u64, t: usize) -> u64
     requires { ⌜ (t < length (now row)) × (length (now row) ≤ length (now acc)) ⌝ }
-    ensures { λ r. ⌜ r ≡ wordWith (now (acc .entry)) (now (row .entry)) flip t ⌝ }
+    ensures { λ r. ⌜ r ≡ wordWith (wordAt (now (acc .entry))) (now (row .entry)) flip t ⌝ }
 {
-    acc[t] & (row[t] ^ flip)
+    anded(acc[t], row[t], flip)
+}
+
+// A word ANDed with another, flipped.
+fn anded(w: u64, x: u64, flip: u64) -> u64
+    ensures { λ r. ⌜ r ≡ bitAnd w (bitXor x flip) ⌝ }
+{
+    w & (x ^ flip)
+}
+
+// The set bits of w.
+fn ones_of(w: u64) -> u64
+    ensures { λ r. ⌜ (r ≡ ones w) × (r ≤ 64) ⌝ }
+{
+    u64::count_ones(w) as u64
 }
 
 // The set bits among the first m of w.

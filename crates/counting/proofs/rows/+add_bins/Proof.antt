@@ -3,8 +3,9 @@ use mathlib.Core.Path.{_≡_, refl, ap, sym, _∙_}
 use lib.ListN.{length, getD, take, length-take, length-drop}
 use lib.Seq.{length-take-le, length-front}
 use borrow.Rule.Slice.PartMut.{putMid, same-len-mid}
+use Rattle.counting.specs.Tally.{wordAt}
 use Rattle.counting.proofs.Marks.{partAt}
-use Rattle.counting.proofs.Halves.{half-size, upper-size, lower-size, rows-init, room-upper, room-lower, two-bins, halves}
+use Rattle.counting.proofs.Halves.{half-size, upper-size, lower-size, rows-init, room-upper, room-lower, halves}
 use native.Mathlib.Omega.{arith}
 use borrow.Author.Needs.{needs}
 use Prim.Native.Nat.{ℕ, suc, _+_, _-_, _*_, _/_, _^_, _≤_, _<_}
@@ -13,7 +14,7 @@ use borrow.Fn.PlainCycle.{Measures, is, falls, and}
 use Rattle.counting.proofs.rows.add_bins.Reads as add-bins
 use Rattle.counting.proofs.rows.add_bins.Kinds as add-bins-kinds
 use Rattle.counting.proofs.rows.+add_bins.Lts-add_bins as add-bins-lts
-use Rattle.counting.proofs.rows.add_two.Reads as add-two-reads
+use Rattle.counting.proofs.rows.add_few.Reads as add-few-reads
 use Rattle.counting.proofs.rows.all_marked.Reads as all-marked-reads
 use Rattle.counting.proofs.rows.and_to.Reads as and-to-reads
 use Rattle.counting.proofs.rows.+add_bins.{statement}
@@ -30,7 +31,7 @@ add-bins-below t =
     and 4 add-bins-kinds.ps (falls 4 add-bins-kinds.ps _<_ μ-add-bins t) add-bins.Pre
 
 abbrev calls : ℕ → add-bins-lts.Claims
-calls t = (add-two-reads.Asked, add-two-reads.Learnt, all-marked-reads.Asked, all-marked-reads.Learnt, and-to-reads.Asked, and-to-reads.Learnt, add-bins-below t, add-bins.Post)
+calls t = (add-few-reads.Asked, add-few-reads.Learnt, all-marked-reads.Asked, all-marked-reads.Learnt, and-to-reads.Asked, and-to-reads.Learnt, add-bins-below t, add-bins.Post)
 
 abbrev Entry : ℕ → Type 0
 Entry t = add-bins-lts.Start (calls t) (add-bins-at t) add-bins.Post
@@ -44,10 +45,6 @@ sized : (t : ℕ) (s : Entry t)
     → (length (s .args .bits .now) ≡ suc (length (s .args .bits .now) - 1)) × (length (s .args .bins .now) / 2 ≡ 2 ^ (length (s .args .bits .now) - 1))
     × (length (s .args .bins .now) ≡ length (s .args .bins .now) / 2 + length (s .args .bins .now) / 2)
 sized t s = half-size (s .args .bits .now) (length (s .args .bins .now)) (s .pre .1 .0 .0) (s .pre .1 .0 .2)
-
--- one bit has two bins
-two-of : (t : ℕ) (s : Entry t) → length (s .args .bits .now) - 1 ≡ 0 → length (s .args .bins .now) ≡ 2
-two-of t s one = let e : length (s .args .bits .now) ≡ 1 = omega (arith, sized t s .0) in s .pre .1 .0 .2 ∙ ap (λ (k : ℕ). 2 ^ k) e
 
 -- the row of the last bit
 row : (t : ℕ) (s : Entry t) → getD (s .args .bits .now) (length (s .args .bits .now) - 1) 0 * s .args .stride + s .args .stride ≤ length (s .args .words .now)
@@ -105,39 +102,16 @@ add-bins-add-end-2 t c =
     let s = c .before .before .before .before .before in
     omega (arith, s .pre .1 .0, s .pre .1 .1 .1 .0, row t s, s .good)
 
-add-bins-mul-add-two : (t : ℕ) → add-bins-lts.Need-mul-add-two (calls t) (add-bins-at t) add-bins.Post
-add-bins-mul-add-two t c =
-    let s = c .before .before .before .before .before .before in
-    omega (arith, s .pre .1 .0, s .pre .1 .1 .1 .0, row t s, s .good)
-
-add-bins-sub-add-two : (t : ℕ) → add-bins-lts.Need-sub-add-two (calls t) (add-bins-at t) add-bins.Post
-add-bins-sub-add-two t c = search needs
-
-add-bins-part-add-two-start : (t : ℕ) → add-bins-lts.Need-part-add-two-start (calls t) (add-bins-at t) add-bins.Post
-add-bins-part-add-two-start t c = search needs
-
-add-bins-part-add-two-end : (t : ℕ) → add-bins-lts.Need-part-add-two-end (calls t) (add-bins-at t) add-bins.Post
-add-bins-part-add-two-end t c =
-    let s = c .before .before .before .before .before .before in
-    omega (arith, s .pre .1 .0, s .pre .1 .1 .1 .0, row t s, s .good)
-
-add-bins-add-two-requires : (t : ℕ) → add-bins-lts.Need-add-two-requires (calls t) (add-bins-at t) add-bins.Post
-add-bins-add-two-requires t c κs =
-    let s = c .before .before .before .before .before .before .before .before in
-    let long = part-size t s in
-    let two = two-of t s (c .before .before .if1 .taken) in
-    ((omega (arith, s .pre .1 .0, s .pre .1 .1 .1 .0, row t s, s .good), omega (arith, s .pre .1 .0, s .pre .1 .1 .1 .0, row t s, s .good), omega (arith, s .pre .1 .0, s .pre .1 .1 .1 .0, row t s, s .good)), (two, s .pre .1 .1 .1 .1))
+add-bins-add-few-requires : (t : ℕ) → add-bins-lts.Need-add-few-requires (calls t) (add-bins-at t) add-bins.Post
+add-bins-add-few-requires t c κs =
+    let s = c .before .before .before .before .before .before .before in
+    ((s .pre .1 .0 .0, omega (arith, sized t s .0, c .before .if1 .taken), s .pre .1 .0 .2), (s .pre .1 .1 .0, (s .pre .1 .1 .1 .0, s .pre .1 .1 .1 .1)))
 
 add-bins-same-length : (t : ℕ) → add-bins-lts.Need-same-length (calls t) (add-bins-at t) add-bins.Post
-add-bins-same-length t c = c .before .before .add-two .kept .1 .1 .1 .0
+add-bins-same-length t c = search needs
 
 add-bins-returns : (t : ℕ) → add-bins-lts.Need-returns (calls t) (add-bins-at t) add-bins.Post
-add-bins-returns t c =
-    let s = c .before .before .before .before .before .before .before .before .before .before .before in
-    let a = s .args in
-    let one = c .before .before .before .before .before .if1 .taken in
-    two-bins (a .words .now) (a .stride) (a .start) (a .n) (a .bits .now) (length (a .bits .now) - 1) _ (sized t s .0) refl (a .acc .now) (a .bins .now) (c .before .before .add-two .last .1 .1 .1 .0) one (two-of t s one)
-    (c .before .before .add-two .ensures)
+add-bins-returns t c = c .before .before .add-few .ensures
 
 add-bins-all-marked-requires : (t : ℕ) → add-bins-lts.Need-all-marked-requires (calls t) (add-bins-at t) add-bins.Post
 add-bins-all-marked-requires t c κs = search needs
@@ -279,8 +253,8 @@ add-bins-returns-2 t c =
     let lower = c .before .before .add-bins2 in
     let marks = c .before .before .before .before .before .before .before .before .before .before .before .before .before .before .before .before .before .and-to in
     let marks′ = c .before .before .before .before .before .before .before .and-to2 in
-    halves (a .words .now) (a .stride) (a .start) (a .n) (a .bits .now) (length (a .bits .now) - 1) (first t s) (sized t s .0) refl (a .acc .now)
-    (a .bins .now) (upper .last .1 .1 .1 .1 .1 .1 .0) (lower .last .1 .1 .1 .1 .1 .1 .0) (marks .last .0) (marks′ .last .0) (length (a .bins .now) / 2) (sized t s .1) (sized t s .2)
+    halves (a .words .now) (a .stride) (a .start) (a .n) (a .bits .now) (length (a .bits .now) - 1) (first t s) (sized t s .0) refl (wordAt (a .acc .now))
+    (a .bins .now) (upper .last .1 .1 .1 .1 .1 .1 .0) (lower .last .1 .1 .1 .1 .1 .1 .0) (wordAt (marks .last .0)) (wordAt (marks′ .last .0)) (length (a .bins .now) / 2) (sized t s .1) (sized t s .2)
     (omega (arith, row t s, s .pre .1 .1 .1 .0))
     (upper .kept .1 .1 .1 .1 .1 .1 .0) (lower .kept .1 .1 .1 .1 .1 .1 .0) (λ u l. omega (arith, marks .ensures u l)) (λ u l. omega (arith, marks′ .ensures u l)) (upper .ensures) (lower .ensures)
 
@@ -296,11 +270,7 @@ pub +add-bins-spec : {M : Type 1} → statement M
     (add-bins-add-at t)
     (add-bins-add-end t)
     (add-bins-add-end-2 t)
-    (add-bins-mul-add-two t)
-    (add-bins-sub-add-two t)
-    (add-bins-part-add-two-start t)
-    (add-bins-part-add-two-end t)
-    (add-bins-add-two-requires t)
+    (add-bins-add-few-requires t)
     (add-bins-same-length t)
     (add-bins-returns t)
     (add-bins-all-marked-requires t)

@@ -107,7 +107,7 @@ loop-again c =
     let m = (a .n + 63) / 64 in
     let bit = onward (64 * a .start) (storedBit (a .stride) (a .words .now)) in
     let lane = laneOf (wordAt (a .acc .now)) in
-    let lane′ = laneOf (wordWith (a .acc .now) (partAt (a .words .now) base m) 0) in (
+    let lane′ = laneOf (wordWith (wordAt (a .acc .now)) (partAt (a .words .now) base m) 0) in (
       omega arith,
       simp length-set (at .inv .1),
       stored-more (λ u. getD (a .counts .now) u 0 + markedIn lane bit ((a .next + u) ∷ []) (a .n) 1) (a .counts .now) (at .j) (at .counts) _ (omega arith)
@@ -116,7 +116,7 @@ loop-again c =
             at .inv .2 .1 (at .j) (le-refl (at .j)),
             c .before .count-with .ensures .0,
             marked-one lane lane′ bit b (a .n) 1
-                (λ e h. with-row (a .words .now) (a .stride) (a .start) b base m refl (a .acc .now) 0 1 e (omega arith) (lit< tt) refl),
+                (λ e h. with-row (a .words .now) (a .stride) (a .start) b base m refl (wordAt (a .acc .now)) 0 1 e (omega arith) (lit< tt) refl),
           ))
           (at .inv .2),
     )

@@ -2,7 +2,7 @@
 use Prim.Native.Nat.{_≤_, _-_}
 use mathlib.Core.Path.{_≡_, refl}
 use lib.ListN.{length, length-set}
-use Rattle.counting.specs.Tally.{wordWith}
+use Rattle.counting.specs.Tally.{wordAt, wordWith}
 use Rattle.counting.proofs.Marks.{Stored, stored-none, stored-more}
 use native.Mathlib.Omega.{arith}
 use borrow.Author.Needs.{needs}
@@ -10,7 +10,7 @@ use Rattle.counting.proofs.rows.and_to.Statement.{statement}
 use Rattle.counting.proofs.rows.and_to.Tie as tie
 
 abbrev Inv-loop : tie.InvT-loop
-Inv-loop to₀ acc row flip t₀ to t = (t ≤ length row) × (length to ≡ length to₀) × Stored (wordWith acc row flip) to₀ t to
+Inv-loop to₀ acc row flip t₀ to t = (t ≤ length row) × (length to ≡ length to₀) × Stored (wordWith (wordAt acc) row flip) to₀ t to
 
 abbrev μ-loop : tie.MeasureT-loop
 μ-loop to₀ acc row flip t₀ to t = length row - t
@@ -47,7 +47,7 @@ unfolding wordWith
 loop-again c =
     let now = c .before .before .before .loop in
     let a = c .before .before .before .before .args in
-    (omega arith, simp length-set (now .inv .1), stored-more (wordWith (a .acc .now) (a .row .now) (a .flip)) (a .to .now) (now .t) (now .to) _ (omega arith) refl (now .inv .2))
+    (omega arith, simp length-set (now .inv .1), stored-more (wordWith (wordAt (a .acc .now)) (a .row .now) (a .flip)) (a .to .now) (now .t) (now .to) _ (omega arith) refl (now .inv .2))
 
 same-length : tie.Need-same-length Inv-loop μ-loop
 same-length c = search needs

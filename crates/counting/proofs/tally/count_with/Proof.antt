@@ -1,11 +1,9 @@
 -- `tally::count_with` meets its contract: whole words, and the first lanes of one more.
 use Prim.Native.Nat.{ℕ, _%_, _^_, _<_}
 use mathlib.Core.Path.{ap, sym, _∙_}
-use lib.Bits.{bitXor, and-lt, xor-lt}
 use lib.Count.{ones}
-use lib.ListN.{getD}
-use Rattle.counting.specs.Tally.{wordWith}
-use Rattle.counting.proofs.Tallying.{lanes-part, lanes-whole}
+use Rattle.counting.specs.Tally.{wordAt, wordWith}
+use Rattle.counting.proofs.Tallying.{with-small, lanes-part, lanes-whole}
 use native.Mathlib.Omega.{arith}
 use borrow.Author.Needs.{needs}
 use Rattle.counting.proofs.tally.count_with.Statement.{statement}
@@ -13,15 +11,10 @@ use Rattle.counting.proofs.tally.count_with.Tie as tie
 
 -- a word of acc and of the row is one of 64 bits
 small : (d : tie.After-shared-slice-known2) (t : ℕ)
-    → wordWith (d .before .before .args .acc .now) (d .before .before .args .row .now) (d .before .before .args .flip) t < 2 ^ 64
-unfolding wordWith
-small d t =
+    → wordWith (wordAt (d .before .before .args .acc .now)) (d .before .before .args .row .now) (d .before .before .args .flip) t < 2 ^ 64
+small d =
     let a = d .before .before .args in
-    let x = getD (a .acc .now) t 0 in
-    let y = getD (a .row .now) t 0 in
-    let hx : x < 2 ^ 64 = search (needs, d .before .shared-slice-known .given t) in
-    let hy : y < 2 ^ 64 = search (needs, d .shared-slice-known2 .given t) in
-    and-lt 64 x (bitXor y (a .flip)) hx (xor-lt 64 y (a .flip) hy (d .before .before .fits .flip .fits))
+    with-small (wordAt (a .acc .now)) (a .row .now) (a .flip) (λ t. search (needs, d .before .shared-slice-known .given t)) (λ t. search (needs, d .shared-slice-known2 .given t)) (d .before .before .fits .flip .fits)
 
 count-words-requires : tie.Need-count-words-requires
 count-words-requires c κs = search needs
@@ -45,7 +38,7 @@ returns c =
     let a = d .before .before .args in (
       omega (
         arith,
-        lanes-part (wordWith (a .acc .now) (a .row .now) (a .flip)) (small d) (a .n),
+        lanes-part (wordWith (wordAt (a .acc .now)) (a .row .now) (a .flip)) (small d) (a .n),
         sums .count-words .ensures .0,
         c .ones-below .ensures .0,
         ap (λ (w : ℕ). ones (w % 2 ^ (a .n % 64))) (c .before .word .ensures),
@@ -58,7 +51,7 @@ returns-2 c =
     let sums = c .before in
     let d = sums .before in
     let a = d .before .before .args in
-    (sums .count-words .ensures .0 ∙ sym (lanes-whole (wordWith (a .acc .now) (a .row .now) (a .flip)) (small d) (a .n) (c .if1 .left)), omega arith)
+    (sums .count-words .ensures .0 ∙ sym (lanes-whole (wordWith (wordAt (a .acc .now)) (a .row .now) (a .flip)) (small d) (a .n) (c .if1 .left)), omega arith)
 
 pub count-with-spec : {M : Type 1} → statement M
 count-with-spec =
