@@ -1,0 +1,140 @@
+//! Cases for `crates/replay_cases`: a recording in pieces, both searches after it, and all that was lent.
+
+use answers::*;
+
+mod cases;
+
+/// What a replay is given: numbers, how many entries of each kind are lent, the recording, and the lengths of its pieces.
+#[derive(Clone)]
+struct Case {
+    block_size: usize,
+    k: usize,
+    words: usize,
+    bins: usize,
+    order: usize,
+    first: usize,
+    second: usize,
+    recording: Vec<u8>,
+    lengths: Vec<usize>,
+}
+
+/// Words and entries as they are lent.
+const WORD: u64 = u64::MAX;
+const ENTRY: usize = 99;
+
+fn main() {
+    let mut sheet = Sheet::default();
+    sheet.note("Cases of the replay crate. Made, with their answers, by `tools/answers/run replay REFERENCE`; no answer is our own program's.");
+    sheet.note("Findings: the reference's bottomup on the bytes held, with threads = 1; where the layered search runs, they agree where threads = 0 gives the same.");
+    sheet.note("Counts: its evaluate_histogram on those bytes. Refusals, refused feeds, W and the words by the rules in that tool, where the row bits below n are");
+    sheet.note("held against its transform_data. Every word is lent with all ones, every other entry as 99.");
+    sheet.note("Each: B, k, how many words, bins, entries of the order and of both stores are lent, and W (0 where the layered search does not run); the number of the");
+    sheet.note("recording's bytes, and each; the number of lengths, and each.");
+    sheet.note("Answer: a line with refusal, refused feeds, whether the layered search ran, whether the findings agree, B, width, 20 bits, division and the pattern of z;");
+    sheet.note("all words; the whole bin buffer; the whole order buffer; how many entries of each store, past W, are no longer as lent.");
+    sheet.note(&run::note());
+    let cases = cases::all(&mut Draws::new(10));
+    sheet.case([cases.len()]);
+    for case in &cases {
+        write_case(&mut sheet, case);
+    }
+    sheet.save();
+}
+
+/// W: the entries of a store for the layered search of width k.
+fn store_entries(block_size: usize, k: usize) -> usize {
+    (1..=1.max(k - 1)).map(|d| choose(block_size, d).saturating_mul(1 << d)).max().unwrap()
+}
+
+/// The first condition that applies, in the order of a replay's refusals; 0 where none does.
+fn refusal(case: &Case) -> usize {
+    let total: u128 = case.lengths.iter().map(|length| *length as u128).sum();
+    if total != case.recording.len() as u128 {
+        24
+    } else if !valid(case.block_size) {
+        1
+    } else if case.k == 0 || case.k > 20 {
+        2
+    } else if case.k > case.block_size {
+        3
+    } else if case.bins < 1 << case.k || case.order < 1 << case.k {
+        7
+    } else {
+        0
+    }
+}
+
+/// The bytes held after all pieces, and how many feeds are refused: one that would pass capacity is, and adds nothing.
+fn fed(case: &Case) -> (Vec<u8>, usize) {
+    let (mut held, mut refused, mut at) = (Vec::new(), 0, 0);
+    for length in &case.lengths {
+        let piece = &case.recording[at..at + length];
+        at += length;
+        if held.len() + length > capacity_bytes(case.block_size, case.words) {
+            refused += 1;
+        } else {
+            held.extend(piece);
+        }
+    }
+    (held, refused)
+}
+
+/// The words after start and all feeds: bit b of block e at bit e mod 64 of word b * S + e / 64, an unfinished block's among them, and all else 0.
+fn words_after(case: &Case, held: &[u8]) -> Vec<u64> {
+    let size = case.block_size / 8;
+    let stride = case.words / case.block_size;
+    let mut words = vec![0u64; case.words];
+    for (t, byte) in held.iter().enumerate() {
+        for i in 0..8 {
+            let (e, b) = (t / size, 8 * (t % size) + i);
+            if byte >> (7 - i) & 1 == 1 {
+                words[b * stride + e / 64] |= 1 << (e % 64);
+            }
+        }
+    }
+    let rows = transform_data(held, case.block_size);
+    let n = rows.num_of_blocks();
+    for (b, e) in (0..case.block_size).flat_map(|b| (0..n).map(move |e| (b, e))) {
+        assert_eq!(words[b * stride + e / 64] >> (e % 64) & 1, rows.word(b, e / 64) >> (e % 64) & 1);
+    }
+    words
+}
+
+fn write_case(sheet: &mut Sheet, case: &Case) {
+    let refusal = refusal(case);
+    let store = if refusal == 0 { store_entries(case.block_size, case.k) } else { 0 };
+    let layered = refusal == 0 && case.first >= store && case.second >= store;
+    let free = if layered { store } else { 0 };
+    sheet.case([case.block_size, case.k, case.words, case.bins, case.order, case.first, case.second, free]);
+    sheet.list(&case.recording);
+    sheet.list(&case.lengths);
+    if refusal != 0 {
+        // Every field 0, and all as lent.
+        sheet.answer([refusal].into_iter().chain([0; 27]));
+        sheet.answer(vec![WORD; case.words]);
+        sheet.answer(vec![ENTRY; case.bins]);
+        sheet.answer(vec![ENTRY; case.order]);
+    } else {
+        answer(sheet, case, layered);
+    }
+    sheet.answer([0, 0]);
+}
+
+/// The lines but the last of a case that is not refused.
+fn answer(sheet: &mut Sheet, case: &Case, layered: bool) {
+    let (held, refused) = fed(case);
+    let finding = bottomup(&held, case.block_size, case.k, 1).unwrap();
+    let agree = !layered || bottomup(&held, case.block_size, case.k, 0).unwrap() == finding;
+    let mut line = vec![0, refused as u64, layered as u64, agree as u64, finding.block_size as u64, finding.bits.len() as u64];
+    line.extend(finding.bits.iter().map(|bit| *bit as u64));
+    line.resize(26, 0);
+    line.extend([finding.division as u64, finding.z.to_bits()]);
+    sheet.answer(line);
+    sheet.answer(words_after(case, &held));
+    let mut bins = evaluate_histogram(&finding, &held).bins;
+    bins.resize(case.bins, ENTRY);
+    sheet.answer(bins);
+    let mut order = finding.order;
+    order.resize(case.order, ENTRY);
+    sheet.answer(order);
+}
