@@ -18,6 +18,7 @@ pub fn all(draws: &mut Draws) -> Vec<Case> {
     cases.extend(stores(draws));
     cases.extend(buffers(draws));
     cases.extend(widths(draws));
+    cases.extend(tied(draws));
     cases.extend(unfinished(draws));
     cases.extend(blocks(draws));
     cases.extend(longest_block(draws));
@@ -82,7 +83,7 @@ fn refused(draws: &mut Draws) -> Vec<Case> {
     cases.push(Case { recording: vec![], lengths: vec![1], ..good.clone() });
     cases.push(Case { recording: vec![], lengths: vec![1, usize::MAX], ..good.clone() });
     for block_size in [0, 4, 7, 9, 12, 4095, 4097, 4104, 1 << 32, (1 << 32) + 8, usize::MAX - 7, usize::MAX] {
-        cases.push(Case { block_size, ..good.clone() });
+        cases.push(Case { block_size, k: 1, ..good.clone() });
     }
     for k in [0, 21, 1 << 32, (1 << 32) + 3, usize::MAX] {
         cases.push(Case { k, block_size: 64, ..good.clone() });
@@ -199,6 +200,27 @@ fn widths(draws: &mut Draws) -> Vec<Case> {
             let words = block_size + draws.below(block_size);
             let pieces = if block_size < 24 { pieces(draws, block_size, words, &held) } else { few(draws, &held) };
             cases.push(replay(block_size, k, words, &pieces, turn));
+        }
+    }
+    cases
+}
+
+/// Every byte once, so that all subsets and divisions tie at 0; and recordings whose winner has its z at a later division too: the first is to be answered.
+fn tied(draws: &mut Draws) -> Vec<Case> {
+    let every: Vec<u8> = (0..=255).collect();
+    let mut cases = [1, 3, 7].map(|k| replay(8, k, 8 * 4, &few(draws, &every), 1)).to_vec();
+    while cases.len() < 9 {
+        let k = 2 + cases.len() % 2;
+        let n = 4 + draws.below(13);
+        let held = draws.bytes(n);
+        let finding = bottomup(&held, 8, k, 1).unwrap();
+        let bins = evaluate_histogram(&finding, &held).bins;
+        let size_at = |i: usize| {
+            let count = finding.order[..i].iter().map(|bin| bins[*bin]).sum();
+            z_score(n, count, i as f64 / bins.len() as f64).abs()
+        };
+        if (finding.division + 1..bins.len()).any(|i| size_at(i) == finding.z) {
+            cases.push(replay(8, k, 8, &few(draws, &held), 0));
         }
     }
     cases
