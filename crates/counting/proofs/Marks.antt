@@ -3,19 +3,20 @@ use mathlib.Core.Path.{_≡_, refl, sym, ap, ap₂, _∙_}
 use mathlib.Core.List.{List, [], _∷_, _++_}
 use Prim.Native.Nat.{ℕ, zero, suc, _+_, _-_, _*_, _/_, _%_, _^_, _≤_, _<_, min}
 use native.Mathlib.Omega.{arith}
+use native.Mathlib.Decide.{decLt}
 use native.Mathlib.Nat.{one-mul, add-assoc, add-zero, pow-suc}
 use native.Mathlib.Numerals.{add-one}
 use lib.Bits.{bitAnd, bitXor, differ}
 use lib.Dec.{lit<}
 use lib.ListN.{length, getD, take, drop, set, length-append}
 use lib.Pow.{pow-pos, shl-exact}
-use lib.Seq.{take-suc, getD-take, getD-drop, getD-set-same, getD-set-other}
+use lib.Seq.{take-suc, take-all, getD-take, getD-drop, getD-set-same, getD-set-other}
 use borrow.Author.Count.{below-more}
 use Rattle.counting.specs.Block.{bitAt, binOf}
 use Rattle.counting.specs.Sample.{same, countIn, sumTo, allSet}
 use Rattle.counting.specs.Tally.{laneOf, wordAt, wordWith}
 use Rattle.counting.specs.Words.{storedBit}
-use Rattle.counting.specs.Rows.{onward, Marks, Extended, CountRoom, markedIn}
+use Rattle.counting.specs.Rows.{onward, Marks, Paired, Extended, CountRoom, markedIn}
 use Rattle.counting.proofs.Lanes.{bit-lt, bit-zero, bit-and, bit-xor, bit-ones}
 use Rattle.counting.proofs.Counts.{same-le, same-step, bin-lt, bin-snoc, sum-ext, count-more, count-le}
 
@@ -87,13 +88,13 @@ module _ (words : List ℕ) (S start b at m : ℕ) (here : at ≡ b * S + start)
       ∙ ap (min (bitAt x l)) (flipped w y l hy hl ∙ ap (λ (z : ℕ). same z y) (row-lane e h))
 
   -- and as it is
-  pub and-lane : (acc acc′ : List ℕ) (e : ℕ) → e / 64 < m
-      → getD acc′ (e / 64) 0 ≡ bitAnd (getD acc (e / 64) 0) (getD (partAt words at m) (e / 64) 0)
-      → laneOf (wordAt acc′) e ≡ min (laneOf (wordAt acc) e) (same (storedBit S words (64 * start + e) b) 1)
+  pub and-lane : (word word′ : ℕ → ℕ) (e : ℕ) → e / 64 < m
+      → word′ (e / 64) ≡ bitAnd (word (e / 64)) (getD (partAt words at m) (e / 64) 0)
+      → laneOf word′ e ≡ min (laneOf word e) (same (storedBit S words (64 * start + e) b) 1)
   unfolding laneOf
-  and-lane acc acc′ e h step =
+  and-lane word word′ e h step =
       let l = e % 64 in
-      let x = getD acc (e / 64) 0 in
+      let x = word (e / 64) in
       let w = getD (partAt words at m) (e / 64) 0 in
       ap (λ (z : ℕ). bitAt z l) step ∙ bit-and x w l
       ∙ ap (min (bitAt x l)) (row-lane e h ∙ sym (same-one (storedBit S words (64 * start + e) b) (stored-lt S words (64 * start + e) b)))
@@ -115,14 +116,37 @@ pub marks-none : (acc : List ℕ) (bit : ℕ → ℕ → ℕ) (n : ℕ) → ((e 
 unfolding binOf
 marks-none acc bit n ones e h = ones e h
 
--- one bit more, whose row was ANDed in
-pub marks-more : (acc acc′ : List ℕ) (bit : ℕ → ℕ → ℕ) → ((e b : ℕ) → bit e b < 2) → (bits : List ℕ) (i n : ℕ) → i < length bits
-    → ((e : ℕ) → e < n → laneOf (wordAt acc′) e ≡ min (laneOf (wordAt acc) e) (same (bit e (getD bits i 0)) 1))
-    → Marks acc bit (take i bits) n → Marks acc′ bit (take (i + 1) bits) n
-marks-more acc acc′ bit low bits i n hi step old e h =
-    step e h ∙ ap (λ (x : ℕ). min x (same (bit e (getD bits i 0)) 1)) (old e h)
-    ∙ all-more (bit e) (low e) (take i bits) (getD bits i 0)
-    ∙ ap (λ (l : List ℕ). same (binOf (bit e) l) (2 ^ length l - 1)) (sym (ap (λ (j : ℕ). take j bits) (add-one i) ∙ take-suc bits i 0 hi))
+-- two bits more, or the last twice, whose rows were ANDed in
+module _ (acc acc′ : List ℕ) (bit : ℕ → ℕ → ℕ) (low : (e b : ℕ) → bit e b < 2) (bits : List ℕ) (n : ℕ) where
+  -- whether block e has the first i bits set
+  abbrev all-of : ℕ → ℕ → ℕ
+  all-of i e = same (binOf (bit e) (take i bits)) (2 ^ length (take i bits) - 1)
+
+  one-more : (i e : ℕ) → i < length bits → min (all-of i e) (same (bit e (getD bits i 0)) 1) ≡ all-of (i + 1) e
+  one-more i e h =
+      all-more (bit e) (low e) (take i bits) (getD bits i 0)
+      ∙ ap (λ (l : List ℕ). same (binOf (bit e) l) (2 ^ length l - 1)) (sym (ap (λ (j : ℕ). take j bits) (add-one i) ∙ take-suc bits i 0 h))
+
+  pub marks-two : (i j : ℕ) → i < length bits → Paired i (length bits) j
+      → ((e : ℕ) → e < n → laneOf (wordAt acc′) e ≡ min (min (laneOf (wordAt acc) e) (same (bit e (getD bits i 0)) 1)) (same (bit e (getD bits j 0)) 1))
+      → Marks acc bit (take i bits) n → Marks acc′ bit (take (i + 2) bits) n
+  marks-two i j hi (next, last) step old e h = by-side (decLt (i + 1) (length bits))
+    where
+      first : laneOf (wordAt acc′) e ≡ min (all-of (i + 1) e) (same (bit e (getD bits j 0)) 1)
+      first =
+          step e h
+          ∙ ap (λ (x : ℕ). min x (same (bit e (getD bits j 0)) 1)) (ap (λ (x : ℕ). min x (same (bit e (getD bits i 0)) 1)) (old e h) ∙ one-more i e hi)
+
+      by-side : Dec (i + 1 < length bits) → laneOf (wordAt acc′) e ≡ all-of (i + 2) e
+      by-side (yes below) =
+          let two : i + 1 + 1 ≡ i + 2 = omega arith in
+          first ∙ ap (λ (b : ℕ). min (all-of (i + 1) e) (same (bit e (getD bits b 0)) 1)) (next below) ∙ one-more (i + 1) e below ∙ ap (λ (b : ℕ). all-of b e) two
+      by-side (no above) =
+          let ends : length bits ≤ i + 1 = omega arith in
+          let whole : take (i + 1) bits ≡ take (i + 2) bits = take-all (i + 1) bits ends ∙ sym (take-all (i + 2) bits (omega arith)) in
+          let again : min (all-of (i + 1) e) (same (bit e (getD bits i 0)) 1) ≡ all-of (i + 1) e = omega (arith, one-more i e hi) in
+          first ∙ ap (λ (b : ℕ). min (all-of (i + 1) e) (same (bit e (getD bits b 0)) 1)) (last ends) ∙ again
+          ∙ ap (λ (l : List ℕ). same (binOf (bit e) l) (2 ^ length l - 1)) whole
 
 -- the blocks from base on that have one bit more
 pub extended-more : (acc : List ℕ) (bit : ℕ → ℕ → ℕ) → ((e b : ℕ) → bit e b < 2) → (base n : ℕ) (bits : List ℕ) (b : ℕ) → Marks acc (onward base bit) bits n

@@ -31,6 +31,10 @@ markedIn lane bit bits n v = sumTo (λ e. min (lane e) (same (binOf (bit e) bits
 abbrev pub Marks : List ℕ → (ℕ → ℕ → ℕ) → List ℕ → ℕ → Type 0
 Marks acc bit bits n = (e : ℕ) → e < n → laneOf (wordAt acc) e ≡ same (binOf (bit e) bits) (2 ^ length bits - 1)
 
+-- of len places, j is the one after i, or i where that is the last
+abbrev pub Paired : ℕ → ℕ → ℕ → Type 0
+Paired i len j = (i + 1 < len → j ≡ i + 1) × (len ≤ i + 1 → j ≡ i)
+
 -- entry j counts those of the n blocks that have all the bits and bit next + j set
 abbrev pub Extended : (ℕ → ℕ → ℕ) → ℕ → List ℕ → ℕ → List ℕ → Type 0
 Extended bit n bits next counts = (j : ℕ) → j < length counts → getD counts j 0 ≡ allSet bit n (bits ++ ((next + j) ∷ []))

@@ -7,7 +7,7 @@ ghost use lib.ListN.{length, getD, replicate};
 ghost use Rattle.counting.specs.Sample.{sumTo, allSet, countsOf};
 ghost use Rattle.counting.specs.Tally.{laneOf, wordAt, wordWith};
 ghost use Rattle.counting.specs.Words.{storedBit};
-ghost use Rattle.counting.specs.Rows.{RowsIn, BlocksIn, ChunkIn, onward, Marks, Extended, CountRoom, markedIn, Parted};
+ghost use Rattle.counting.specs.Rows.{RowsIn, BlocksIn, ChunkIn, onward, Marks, Extended, CountRoom, markedIn, Paired, Parted};
 use crate::tally::count_both;
 use crate::tally::count_with;
 
@@ -95,7 +95,8 @@ fn extend(
     add_each(&acc, next, words, stride, start, n, counts);
 }
 
-// Leaves the marks of the blocks that have all the bits set.
+// Leaves the marks of the blocks that have all the bits set. Two rows a turn, so that the marks are written half as often; the last row
+// of an odd number twice, which changes nothing.
 fn and_rows(acc: &mut [u64], bits: &[u32], words: &[u64], stride: usize, start: usize, n: usize)
     requires { ⌜ RowsIn (now words) stride (now bits) ⌝ }
     requires { ⌜ ChunkIn stride start n × (512 ≤ length (now acc)) ⌝ }
@@ -105,21 +106,32 @@ fn and_rows(acc: &mut [u64], bits: &[u32], words: &[u64], stride: usize, start: 
     let m = (n + 63) / 64;
     let mut i: usize = 0;
     while i < bits.len() {
+        let j = with_next(i, bits.len());
         let at = bits[i] as usize * stride + start;
         let end = at + m;
-        and_row(acc, &words[at..end]);
-        i += 1;
+        let other = bits[j] as usize * stride + start;
+        let other_end = other + m;
+        and_two(acc, &words[at..end], &words[other..other_end]);
+        i += 2;
     }
 }
 
-// ANDs a row into the first words of acc.
-fn and_row(acc: &mut [u64], row: &[u64])
-    requires { ⌜ length (now row) ≤ length (now acc) ⌝ }
-    ensures { λ _. ⌜ ((t : ℕ) → t < length (now (row .entry)) → getD (now (acc .exit)) t 0 ≡ bitAnd (getD (now (acc .entry)) t 0) (getD (now (row .entry)) t 0)) ⌝ }
+// The place after i of `len`; where i is the last, i.
+fn with_next(i: usize, len: usize) -> usize
+    requires { ⌜ i < len ⌝ }
+    ensures { λ r. ⌜ Paired i len r ⌝ }
+{
+    if i + 1 < len { i + 1 } else { i }
+}
+
+// ANDs two rows into the first words of acc.
+fn and_two(acc: &mut [u64], row: &[u64], other: &[u64])
+    requires { ⌜ (length (now row) ≤ length (now acc)) × (length (now other) ≡ length (now row)) ⌝ }
+    ensures { λ _. ⌜ ((t : ℕ) → t < length (now (row .entry)) → getD (now (acc .exit)) t 0 ≡ bitAnd (bitAnd (getD (now (acc .entry)) t 0) (getD (now (row .entry)) t 0)) (getD (now (other .entry)) t 0)) ⌝ }
 {
     let mut t: usize = 0;
     while t < row.len() {
-        acc[t] = acc[t] & row[t];
+        acc[t] = (acc[t] & row[t]) & other[t];
         t += 1;
     }
 }
