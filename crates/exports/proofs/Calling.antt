@@ -11,16 +11,14 @@ use Rattle.counting.specs.declared.sampling.Sampler.{Sampler}
 use Rattle.counting.specs.declared.sampling.Started.{Started}
 use Rattle.counting.specs.declared.sampling.Fed.{Fed}
 use Rattle.searching.specs.Search.{DirectSearch, LayeredSearch}
-use Rattle.searching.specs.declared.finding.Finding.{Finding}
 use Rattle.searching.specs.declared.finding.Searched.{Searched}
-use Rattle.judging.specs.Check.{checkRefusal, checkedScratch}
 use Rattle.judging.specs.Evaluation.{evaluatedOf, evaluatedScratch}
 use Rattle.judging.specs.Plan.{planOf}
 use Rattle.judging.specs.Split.{splitRefusal, firstPart, secondPart}
 use Rattle.judging.specs.declared.evaluation.Evaluated.{Evaluated}
 use Rattle.judging.specs.declared.plan.Plan.{Plan}
 use Rattle.exports.specs.Records.{samplerNumbers, samplerOf, findingNumbers, findingRead, evaluatedNumbers, planNumbers, written}
-use Rattle.exports.specs.Calls.{StartCall, FeedCall, Answered, DirectCall, LayeredCall, CheckCall, EvaluateCall, SplitCall, PlanCall}
+use Rattle.exports.specs.Calls.{StartCall, FeedCall, Answered, DirectCall, LayeredCall, EvaluateCall, SplitCall, PlanCall}
 
 -- one of two slices is too short, where both are long enough
 neither : {a b m n : ℕ} → m ≤ a → n ≤ b → (a < m) ⊎ (b < n) → ⊥
@@ -131,36 +129,17 @@ layered-short sampler ws k first second bins order finding h =
 
 -- ---- judging
 
-pub check-made :
-    (finding order scratch : List ℕ) (f : Finding) (r : ℕ) (scratch′ : List ℕ)
-    → 24 ≤ length finding
-    → f ≡ findingRead finding
-    → r ≡ checkRefusal f order (length scratch)
-    → scratch′ ≡ checkedScratch f (length order) scratch
-    → CheckCall finding order scratch r scratch′
-check-made finding order scratch f r scratch′ room e a s =
-    record {
-      made = λ h. (a ∙ ap (λ (x : Finding). checkRefusal x order (length scratch)) e, s ∙ ap (λ (x : Finding). checkedScratch x (length order) scratch) e);
-      short = λ h. absurd (omega arith);
-    }
-
 pub evaluate-made :
-    (finding order bytes scratch evaluated : List ℕ) (f : Finding) (a : Evaluated) (scratch′ evaluated′ : List ℕ)
+    (finding order bytes scratch evaluated : List ℕ) (a : Evaluated) (scratch′ evaluated′ : List ℕ)
     → 24 ≤ length finding
     → 3 ≤ length evaluated
-    → f ≡ findingRead finding
-    → a ≡ evaluatedOf f order bytes (length scratch)
-    → scratch′ ≡ evaluatedScratch f order bytes scratch
+    → a ≡ evaluatedOf (findingRead finding) order bytes (length scratch)
+    → scratch′ ≡ evaluatedScratch (findingRead finding) order bytes scratch
     → evaluated′ ≡ written (evaluatedNumbers a) evaluated
     → EvaluateCall finding order bytes scratch evaluated (a .refusal) scratch′ evaluated′
-evaluate-made finding order bytes scratch evaluated f a scratch′ evaluated′ room space e g s w =
-    let b : a ≡ evaluatedOf (findingRead finding) order bytes (length scratch) = g ∙ ap (λ (x : Finding). evaluatedOf x order bytes (length scratch)) e in
+evaluate-made finding order bytes scratch evaluated a scratch′ evaluated′ room space e s w =
     record {
-      made = λ h i. (
-        ap (λ (x : Evaluated). x .refusal) b,
-        s ∙ ap (λ (x : Finding). evaluatedScratch x order bytes scratch) e,
-        w ∙ ap (λ (x : Evaluated). written (evaluatedNumbers x) evaluated) b,
-      );
+      made = λ h i. (ap (λ (x : Evaluated). x .refusal) e, s, w ∙ ap (λ (x : Evaluated). written (evaluatedNumbers x) evaluated) e);
       short = λ h. absurd (neither room space h);
     }
 

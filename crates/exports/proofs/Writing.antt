@@ -1,11 +1,11 @@
 -- What stands in a slice after numbers were written to its front.
 use mathlib.Core.Path.{_≡_, refl, sym, ap, _∙_}
 use mathlib.Core.List.{List, [], _∷_, _++_, append-assoc}
-use Prim.Native.Nat.{ℕ, suc, _+_, _≤_, _<_}
+use Prim.Native.Nat.{ℕ, zero, suc, _+_, _-_, _≤_, _<_}
 use native.Mathlib.Nat.{zero-add}
 use native.Mathlib.Numerals.{add-one}
 use native.Mathlib.Omega.{arith}
-use lib.ListN.{length, set, take, drop, getD, length-append}
+use lib.ListN.{length, set, take, drop, getD, replicate, length-append}
 use lib.Seq.{take-suc, drop-cons, drop-drop, set-at, take-at, drop-at, length-take-le}
 use Rattle.exports.specs.Records.{written}
 
@@ -29,6 +29,12 @@ copy-next p s l m i e h r =
 -- the same from the first entry on
 pub copy-first : (s l : List ℕ) (i : ℕ) → i < length s → i < length l → set (take i s ++ drop i l) i (getD s i 0) ≡ take (i + 1) s ++ drop (i + 1) l
 copy-first s l i h r = let room : 0 + i < length l = omega arith in simp zero-add at (copy-next [] s l 0 i refl h room)
+
+-- the zeros left of m
+pub drop-zeros : (n m : ℕ) → drop n (replicate {A = ℕ} m 0) ≡ replicate (m - n) 0
+drop-zeros zero m = let e : m ≡ m - 0 = omega arith in ap (λ (x : ℕ). replicate x 0) e
+drop-zeros (suc n) zero = let e : 0 ≡ 0 - suc n = omega arith in ap (λ (x : ℕ). replicate x 0) e
+drop-zeros (suc n) (suc m) = let e : m - n ≡ suc m - suc n = omega arith in drop-zeros n m ∙ ap (λ (x : ℕ). replicate x 0) e
 
 -- two stores are two numbers written
 pub two : (l : List ℕ) (a b : ℕ) → 2 ≤ length l → set (set l 0 a) 1 b ≡ written (a ∷ b ∷ []) l

@@ -1,10 +1,11 @@
 -- Records as numbers in a lent slice.
 use Prim.Native.Nat.{ℕ, min}
-use mathlib.Core.List.{List, [], _∷_, _++_, map}
+use mathlib.Core.List.{List, [], _∷_, _++_}
 use lib.Ieee.{binary64, toBits}
 use lib.ListN.{length, getD, take, drop}
 use Rattle.counting.specs.declared.sampling.Sampler.{Sampler}
 use Rattle.ranking.specs.Ranking.{zeroScore}
+use Rattle.subsets.specs.Subsets.{padded}
 use Rattle.searching.specs.declared.finding.Finding.{Finding}
 use Rattle.judging.specs.declared.evaluation.Evaluated.{Evaluated}
 use Rattle.judging.specs.declared.evaluation.Score.{Score}
@@ -31,18 +32,15 @@ written numbers lent = numbers ++ drop (length numbers) lent
 abbrev pub shortRecord : ℕ
 shortRecord = 25
 
--- a number that a record holds in 32 bits: one that is too large stands for the largest, which is neither a bit of a block nor a division
-abbrev pub narrowed : ℕ → ℕ
-narrowed x = min x 4294967295
-
--- the finding whose numbers stand first; its z, which neither a check nor an evaluation reads, is left at 0
+-- the finding whose numbers stand first, each as it stands there. Of the 20 bit entries as many are read as the width says; a z, which neither a check nor
+-- an evaluation reads, is left at 0
 abbrev pub findingRead : List ℕ → Finding
 findingRead l =
     record {
       «block_size» = getD l 0 0;
       width = getD l 1 0;
-      bits = map narrowed (take 20 (drop 4 l));
-      division = narrowed (getD l 2 0);
+      bits = padded (take (min (getD l 1 0) 20) (drop 4 l));
+      division = getD l 2 0;
       z = zeroScore;
     }
 

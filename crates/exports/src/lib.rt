@@ -5,9 +5,10 @@ ghost use lib.ListN.{length};
 ghost use Rattle.subsets.specs.Rank.{rankedOf};
 ghost use Rattle.exports.specs.Calls.{StartCall, FeedCall, DirectCall, LayeredCall, CheckCall, EvaluateCall, SplitCall, PlanCall};
 ghost use Rattle.exports.specs.Single.{RankingCall};
+use crate::findings::evaluate_lent;
+use crate::findings::validate_lent;
 use crate::records::pattern;
 use crate::records::rank_of;
-use crate::records::read_finding;
 use crate::records::read_sampler;
 use crate::records::write_evaluated;
 use crate::records::write_finding;
@@ -17,8 +18,6 @@ use crate::single::ranking_refusal;
 use crate::single::total_of;
 use counting::sampling::feed;
 use counting::sampling::start;
-use judging::check::validate;
-use judging::evaluation::evaluate_histogram;
 use judging::plan::configurations;
 use judging::split::first_part;
 use judging::split::second_part;
@@ -28,6 +27,7 @@ use ranking::ranking::from_bins;
 use searching::search::brute_force;
 use searching::search::brute_force_threads;
 
+pub mod findings;
 pub mod records;
 pub mod single;
 
@@ -145,7 +145,7 @@ pub extern "C" fn jimrawel_validate(finding: &[u64], order: &[u32], scratch: &mu
     if finding.len() < 24 {
         return 25;
     }
-    validate(read_finding(finding), order, scratch)
+    validate_lent(finding, order, scratch)
 }
 
 // A finding on data. Refusals 25, 1, 2, 9, 10, 11, 12, 7, 13, 14.
@@ -165,7 +165,7 @@ pub extern "C" fn jimrawel_evaluate_histogram(
     if evaluated.len() < 3 {
         return 25;
     }
-    let answer = evaluate_histogram(read_finding(finding), order, bytes, scratch);
+    let answer = evaluate_lent(finding, order, bytes, scratch);
     write_evaluated(answer, evaluated);
     answer.refusal
 }

@@ -1,11 +1,11 @@
 // Records as numbers in slices that a host lends.
 ghost use mathlib.Core.Path.{_≡_};
 ghost use Prim.Native.Nat.{_+_, _≤_};
-ghost use mathlib.Core.List.{_++_, map};
+ghost use mathlib.Core.List.{_++_};
 ghost use lib.Ieee.{binary64, toBits};
 ghost use lib.ListN.{length, take, drop, replicate};
 ghost use Rattle.subsets.specs.Rank.{rankedOf};
-ghost use Rattle.exports.specs.Records.{samplerOf, samplerNumbers, findingNumbers, findingRead, narrowed, scoreCase, scoreBits, evaluatedNumbers, planNumbers, written};
+ghost use Rattle.exports.specs.Records.{samplerOf, samplerNumbers, findingNumbers, scoreCase, scoreBits, evaluatedNumbers, planNumbers, written};
 use counting::sampling::Sampler;
 use judging::evaluation::Evaluated;
 use judging::evaluation::Score;
@@ -94,45 +94,6 @@ pub fn rank_of(block_size: usize, bits: &[u32]) -> Ranked
         return compute_index(block_size, bits.len(), none);
     }
     compute_index(block_size, bits.len(), array_of(bits))
-}
-
-// The finding whose numbers stand first; z is left at 0, since judging does not read it.
-pub fn read_finding(numbers: &[u64]) -> Finding
-    requires { ⌜ 24 ≤ length (now numbers) ⌝ }
-    ensures { λ r. ⌜ r ≡ findingRead (now (numbers .entry)) ⌝ }
-{
-    let bits = read_bits(numbers);
-    Finding {
-        block_size: numbers[0] as usize,
-        width: numbers[1] as usize,
-        bits,
-        division: narrow(numbers[2]),
-        z: 0.0,
-    }
-}
-
-// The bits after the first four numbers.
-fn read_bits(numbers: &[u64]) -> [u32; 20]
-    requires { ⌜ 24 ≤ length (now numbers) ⌝ }
-    ensures { λ r. ⌜ r ≡ map narrowed (take 20 (drop 4 (now (numbers .entry)))) ⌝ }
-{
-    let mut bits = [0u32; 20];
-    let mut i: usize = 0;
-    while i < 20 {
-        bits[i] = narrow(numbers[4 + i]);
-        i += 1;
-    }
-    bits
-}
-
-// A number in 32 bits: the largest where it is larger.
-fn narrow(x: u64) -> u32
-    ensures { λ r. ⌜ r ≡ narrowed x ⌝ }
-{
-    if x > 4294967295 {
-        return 4294967295;
-    }
-    x as u32
 }
 
 // Puts the evaluation's numbers first.

@@ -1,4 +1,4 @@
--- `jimrawel_evaluate_histogram` meets its contract: what the evaluation promised of the finding read, its numbers written.
+-- `jimrawel_evaluate_histogram` meets its contract: what the evaluation promised of the finding lent, its numbers written.
 use mathlib.Core.Logic.{inl, inr}
 use Rattle.exports.proofs.Calling.{evaluate-made, evaluate-short}
 use borrow.Author.Needs.{needs}
@@ -15,11 +15,8 @@ returns-2 c =
     let a = c .before .before .before .before .before .before .before .args in
     evaluate-short (a .finding .now) (a .order .now) (a .bytes .now) (a .scratch .now) (a .evaluated .now) (inr (c .if2 .taken))
 
-read-finding-requires : tie.Need-read-finding-requires
-read-finding-requires c κs = search needs
-
-evaluate-histogram-requires : tie.Need-evaluate-histogram-requires
-evaluate-histogram-requires c κs = search needs
+evaluate-lent-requires : tie.Need-evaluate-lent-requires
+evaluate-lent-requires c κs = search needs
 
 write-evaluated-requires : tie.Need-write-evaluated-requires
 write-evaluated-requires c κs = search needs
@@ -34,12 +31,10 @@ returns-3 : tie.Need-returns-3
 returns-3 c =
     let w = c .before .before in
     let v = w .before .before .before .before in
-    let r = v .before .before in
-    let e = r .before in
+    let e = v .before .before in
     let a = e .before .before .before .before .before .before .before .args in
-    evaluate-made (a .finding .now) (a .order .now) (a .bytes .now) (a .scratch .now) (a .evaluated .now)
-    (r .read-finding .result) (v .evaluate-histogram .result) _ _
-    (e .before .if1 .left) (e .if2 .left) (r .read-finding .ensures) (v .evaluate-histogram .ensures .0) (v .evaluate-histogram .ensures .1 .1) (w .write-evaluated .ensures)
+    evaluate-made (a .finding .now) (a .order .now) (a .bytes .now) (a .scratch .now) (a .evaluated .now) (v .evaluate-lent .result) _ _
+    (e .before .if1 .left) (e .if2 .left) (v .evaluate-lent .ensures .0) (v .evaluate-lent .ensures .1) (w .write-evaluated .ensures)
 
 pub jimrawel-evaluate-histogram-spec : {M : Type 1} → statement M
 jimrawel-evaluate-histogram-spec =
@@ -47,8 +42,7 @@ jimrawel-evaluate-histogram-spec =
     (tie.spec
     returns
     returns-2
-    read-finding-requires
-    evaluate-histogram-requires
+    evaluate-lent-requires
     write-evaluated-requires
     same-length
     same-length-2
