@@ -1,13 +1,12 @@
 -- A finding that a host lends: its bits, what is not read of it, what is refused by its bits alone, and that a division which 32 bits do not hold is refused
 -- as the largest that they hold.
 use mathlib.Core.Path.{_≡_, refl, sym, ap, subst, _∙_}
-use mathlib.Core.Bool.{true, cond}
+use mathlib.Core.Bool.{cond}
 use mathlib.Core.List.{List, [], _∷_}
 use Prim.Native.Nat.{ℕ, zero, suc, _+_, _-_, _^_, _≤_, _<_, min}
 use native.Mathlib.Decide.{decLe}
 use native.Mathlib.Nat.{zero-add}
 use native.Mathlib.Omega.{arith}
-use lib.Dec.{leb, ltb}
 use lib.ListN.{length, getD, take, drop, length-drop}
 use lib.Pow.{pow-mono, pow-pos}
 use lib.Seq.{length-take-le, getD-take}
@@ -26,7 +25,7 @@ use Rattle.searching.proofs.Refusing.{or-first, neither}
 use Rattle.judging.specs.Check.{chosen, limitRefusal, lengthRefusal, shapeRefusal, scratchRefusal, divisionRefusal, orderRefusal, earlyRefusal, checkRefusal, checkedScratch}
 use Rattle.judging.specs.Evaluation as evaluation
 use Rattle.judging.specs.Permutation.{eachOnce}
-use Rattle.judging.specs.Evaluation.{blocksOf, positiveIn, zIn, countsIn, blocksRefusal, evaluationRefusal, answerWith, evaluatedOf, scratchAfter, evaluatedScratch}
+use Rattle.judging.specs.Evaluation.{blocksOf, countsIn, blocksRefusal, evaluationRefusal, evaluatedOf, scratchAfter, evaluatedScratch}
 use Rattle.judging.specs.declared.evaluation.Evaluated.{Evaluated}
 use Rattle.judging.specs.declared.evaluation.Score.the-variants.{NoSample}
 use Rattle.judging.proofs.Checking.{Limits, limits, ordered, as-lent}

@@ -2,7 +2,7 @@
 use mathlib.Core.Path.{_≡_, refl}
 use mathlib.Core.Bool.{Bool, true, false, _&&_}
 use mathlib.Core.List.{List}
-use Prim.Native.Nat.{ℕ, zero, suc, _+_, _*_, _<_}
+use Prim.Native.Nat.{ℕ, zero, suc, _+_, _*_, _<_, min}
 use native.Mathlib.Numerals.{add-one}
 use native.Mathlib.Decide.{decLt}
 use native.Mathlib.Omega.{arith}
@@ -55,5 +55,5 @@ eq-self (fin false m e) n = rw (eq-eqb (m * up e * down e) (m * up e * down e) r
 pub finding-self : (f : Finding) → Number (f .z) → sameFinding f f ≡ true
 unfolding sameFinding
 finding-self f n =
-    rw (eq-eqb (f .«block_size») (f .«block_size») refl, eq-eqb (f .width) (f .width) refl, eq-eqb (f .division) (f .division) refl, same-self (f .bits) 20)
+    rw (eq-eqb (f .«block_size») (f .«block_size») refl, eq-eqb (f .width) (f .width) refl, eq-eqb (f .division) (f .division) refl, same-self (f .bits) (min (f .width) 20))
     (eq-self (f .z) n)

@@ -1,5 +1,5 @@
 -- Whether two searches found the same.
-use Prim.Native.Nat.{ℕ, zero, suc}
+use Prim.Native.Nat.{ℕ, zero, suc, min}
 use mathlib.Core.Bool.{Bool, true, cond, _&&_}
 use mathlib.Core.List.{List}
 use lib.Dec.{eqb}
@@ -13,11 +13,11 @@ unfoldable pub sameTo : List ℕ → List ℕ → ℕ → Bool
 sameTo a b zero = true
 sameTo a b (suc i) = sameTo a b i && eqb (getD a i 0) (getD b i 0)
 
--- whether two findings are the same in every field, the scores as the doubles' == has it
+-- whether two findings are the same in every field: the bits up to the width, past which none is read, the scores as the doubles' == has it
 unfoldable pub sameFinding : Finding → Finding → Bool
 sameFinding a b =
     eqb (a .«block_size») (b .«block_size»)
-    && (eqb (a .width) (b .width) && (eqb (a .division) (b .division) && (sameTo (a .bits) (b .bits) 20 && eq (a .z) (b .z))))
+    && (eqb (a .width) (b .width) && (eqb (a .division) (b .division) && (sameTo (a .bits) (b .bits) (min (a .width) 20) && eq (a .z) (b .z))))
 
 -- whether the two searches' findings are the same; true where the layered one did not run
 unfoldable pub agreeOf : Searched → Searched → Bool

@@ -1,5 +1,6 @@
 // Whether two searches found the same.
 ghost use mathlib.Core.Path.{_≡_};
+ghost use Prim.Native.Nat.{_≤_, min};
 ghost use Rattle.replay.specs.Agreement.{sameTo, sameFinding, agreeOf};
 use searching::finding::Finding;
 use searching::finding::Searched;
@@ -16,7 +17,7 @@ pub fn agreeing(layered: Searched, direct: Searched) -> bool
     same_finding(a, b)
 }
 
-// Whether two findings are the same in every field.
+// Whether two findings are the same in every field, their bits up to the width: entries past it are not read.
 pub fn same_finding(a: Finding, b: Finding) -> bool
     ensures { λ r. ⌜ r ≡ sameFinding a b ⌝ }
 {
@@ -31,18 +32,29 @@ pub fn same_finding(a: Finding, b: Finding) -> bool
     }
     let x = a.bits;
     let y = b.bits;
-    if !same_bits(x, y) {
+    if !same_bits(x, y, compared(a.width)) {
         return false;
     }
     a.z == b.z
 }
 
-// Whether all 20 entries are the same.
-fn same_bits(a: [u32; 20], b: [u32; 20]) -> bool
-    ensures { λ r. ⌜ r ≡ sameTo a b 20 ⌝ }
+// How many bits of a width are compared: all of them, and never more than an array holds.
+fn compared(width: usize) -> usize
+    ensures { λ r. ⌜ r ≡ min width 20 ⌝ }
+{
+    if width > 20 {
+        return 20;
+    }
+    width
+}
+
+// Whether the first m entries are the same.
+fn same_bits(a: [u32; 20], b: [u32; 20], m: usize) -> bool
+    requires { ⌜ m ≤ 20 ⌝ }
+    ensures { λ r. ⌜ r ≡ sameTo a b m ⌝ }
 {
     let mut i: usize = 0;
-    while i < 20 {
+    while i < m {
         if a[i] != b[i] {
             return false;
         }

@@ -1,8 +1,6 @@
 -- `findings::read_finding` meets its contract: each field is its number, the division at most the largest of 32 bits.
 use mathlib.Core.Path.{_≡_, refl, sym, ap, subst, _∙_}
 use mathlib.Core.Bool.{false}
-use mathlib.Core.List.{List}
-use Prim.Native.Nat.{_≤_}
 use native.Mathlib.Omega.{arith}
 use lib.Ieee.{fin, binary64, ofBits}
 use lib.IntN.{pos}

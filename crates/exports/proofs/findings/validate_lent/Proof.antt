@@ -1,6 +1,5 @@
 -- `findings::validate_lent` meets its contract: what the bits are refused for comes first, and a division that 32 bits do not hold is refused alike.
 use mathlib.Core.Path.{_≡_, sym, ap, _∙_}
-use Prim.Native.Nat.{_≤_}
 use lib.ListN.{length}
 use borrow.Author.Needs.{needs}
 use Rattle.searching.specs.declared.finding.Finding.{Finding}

@@ -11,10 +11,10 @@ use Rattle.replay.proofs.agreement.same_bits.Statement.{statement}
 use Rattle.replay.proofs.agreement.same_bits.Tie as tie
 
 abbrev Inv-loop : tie.InvT-loop
-Inv-loop a b i₀ i = (i ≤ 20) × (sameTo a b i ≡ true)
+Inv-loop m a b i₀ i = (i ≤ m) × (sameTo a b i ≡ true)
 
 abbrev μ-loop : tie.MeasureT-loop
-μ-loop a b i₀ i = 20 - i
+μ-loop m a b i₀ i = m - i
 
 loop-holds : tie.Need-loop-holds Inv-loop μ-loop
 unfolding sameTo
@@ -36,8 +36,8 @@ returns : tie.Need-returns Inv-loop μ-loop
 returns c =
     let d = c .before .before in
     let a = d .before .args in
-    let h : d .loop .i < 20 = omega arith in
-    sym (differ (a .t1) (a .t2) (d .loop .i) 20 h (ne-eqb _ _ (c .if1 .taken)))
+    let h : d .loop .i < a .m = omega arith in
+    sym (differ (a .t1) (a .t2) (d .loop .i) (a .m) h (ne-eqb _ _ (c .if1 .taken)))
 
 add-i : tie.Need-add-i Inv-loop μ-loop
 add-i c = search needs
@@ -54,7 +54,7 @@ returns-2 : tie.Need-returns-2 Inv-loop μ-loop
 returns-2 c =
     let d = c .before in
     let a = d .before .args in
-    let end : d .loop .i ≡ 20 = omega arith in
+    let end : d .loop .i ≡ a .m = omega arith in
     sym (subst (λ (m : ℕ). sameTo (a .t1) (a .t2) m ≡ true) end (d .loop .inv .1))
 
 pub same-bits-spec : {M : Type 1} → statement M
