@@ -23,7 +23,7 @@
    - A sampler is 3 numbers: the block size B in bits, the number of lent words, and T, the bytes taken so far.
      Its words are lent anew with every call; no one else may change them, or the sampler, from start to the last search.
    - A finding is 24 numbers: the block size, the width k, the division, the bits of its score z as a double, and 20 bit entries, of
-     which the first k count; a search leaves the others 0, and no answer depends on them. Beside it stands its bin order in a buffer of its own.
+     which the first k count; a search leaves the others 0, and no call reads them. Beside it stands its bin order in a buffer of its own.
    - Bit b of a block is bit 7 - b % 8 of its byte b / 8. The bin of a block is the sum of 2^i over the i whose bits[i] is set in it. */
 
 #ifndef JIMRAWEL_H
@@ -120,7 +120,8 @@ uint32_t jimrawel_from_bins(
     size_t k, const uint32_t *bins, size_t bins_len, uint32_t *order, size_t order_len, uint64_t *ranking, size_t ranking_len);
 
 /* Checks a finding and its order before they are used: what a search left always passes.
-     finding  at least 24 numbers; z is not read. A division or a bit of 2^32 or more counts as 2^32 - 1.
+     finding  at least 24 numbers, each taken as it stands, however large. z and the bit entries past the width are never read, nor is any
+              bit entry where the width is refused: they may be uninitialised.
      order    2^width entries.
      scratch  at least 2^width entries; its first 2^width are 0 afterwards unless the refusal comes before 13.
    Refusals: 25, 1, 2, 9, 10, 11, 7, 13, 14. */
@@ -131,7 +132,8 @@ uint32_t jimrawel_validate(
      finding, order, scratch  as for the check; after success the counts stand in the scratch's first 2^width entries.
      bytes      are read; what is left after the last whole block counts nowhere.
      evaluated  at least 3 numbers: how many blocks are in the first `division` bins of the order; 1 where there is a score and 0 for "no
-                sample", which is where there is no block; the bits of the score z, with its sign, as a double.
+                sample", which is where there is no block; the bits of the score z, with its sign, as a double. For "no sample" the third
+                number is 0 and stands for no z: look at the second first.
    Refusals: 25, 1, 2, 9, 10, 11, 12, 7, 13, 14. */
 uint32_t jimrawel_evaluate_histogram(
     const uint64_t *finding, size_t finding_len, const uint32_t *order, size_t order_len, const uint8_t *bytes, size_t bytes_len,

@@ -1,4 +1,5 @@
 //! The inputs of docs/DIFFERENCES.md, each given to our calls and to the reference's: that both answer as is written there.
+//! Beside them, where there is no difference: a finding's large numbers, and bit entries past its width.
 
 use crate::case::{same, Checked};
 use crate::ours;
@@ -8,7 +9,7 @@ use answers::{
 };
 use std::panic;
 
-const ROWS: [(&str, fn() -> Checked); 19] = [
+const ROWS: [(&str, fn() -> Checked); 20] = [
     ("pieces", pieces),
     ("row words", row_words),
     ("an unfinished block", unfinished_block),
@@ -26,6 +27,7 @@ const ROWS: [(&str, fn() -> Checked); 19] = [
     ("no sample", no_sample),
     ("unsound findings", unsound_findings),
     ("numbers of 2^32 and more", large_numbers),
+    ("entries past the width", past_the_width),
     ("a refused split", refused_split),
     ("powers of one half", powers_of_one_half),
 ];
@@ -252,11 +254,37 @@ fn unsound_findings() -> Checked {
     panics("the reference's evaluation", || evaluate_histogram(&finding(&[0, 1, 2, 4], 4), &[0]).positive)
 }
 
+/// That our check and our evaluation refuse a finding with the number, all lent as it was, and the reference's check in words that hold these.
+fn refused(finding: &Finding, number: u32, words: &str) -> Checked {
+    let mut scratch = [5; 4];
+    is("check", (check(finding, &mut scratch), scratch), (number, [5; 4]))?;
+    is("evaluation", ours::evaluate(&numbers(finding), &[0, 1, 2, 3], &[0], &mut scratch), (number, [0; 3]))?;
+    is("scratch", scratch, [5; 4])?;
+    is("the reference's check", validate(finding).is_err_and(|said| said.contains(words)), true)
+}
+
 fn large_numbers() -> Checked {
-    let large = |first: usize| Finding { bits: vec![first, (1 << 32) + 1], ..finding(&[0, 1, 2, 3], 1) };
-    for (first, refusal) in [(1, 10), (1 << 32, 9)] {
-        is("check", check(&large(first), &mut [0; 4]), refusal)?;
-        is("the reference's check", validate(&large(first)).is_err_and(|words| words.contains("outside a")), true)?;
+    let large = |first: usize, second: usize| Finding { bits: vec![first, second], ..finding(&[0, 1, 2, 3], 1) };
+    refused(&large(1, (1 << 32) + 1), 10, "outside a")?;
+    refused(&large(1 << 32, (1 << 32) + 1), 10, "outside a")?;
+    refused(&large(1 << 32, 1 << 32), 9, "increasing")?;
+    refused(&large((1 << 32) + 1, 1 << 32), 9, "increasing")?;
+    let divided = finding(&[0, 1, 2, 3], (1 << 32) + 1);
+    is("check", check(&divided, &mut [0; 4]), 14)?;
+    is("evaluation", ours::evaluate(&numbers(&divided), &[0, 1, 2, 3], &[0], &mut [0; 4]), (14, [0; 3]))?;
+    is("the reference's check", validate(&divided).is_err(), true)
+}
+
+fn past_the_width() -> Checked {
+    let plain = numbers(&finding(&[0, 1, 2, 3], 1));
+    for left in [1, 8, u32::MAX as u64, 1 << 32, u64::MAX] {
+        let mut strewn = plain;
+        strewn[6..].fill(left);
+        is("check", ours::validate(&strewn, &[0, 1, 2, 3], &mut [0; 4]), 0)?;
+        let answer = |numbers: &[u64]| ours::evaluate(numbers, &[0, 1, 2, 3], &[0, 255], &mut [0; 4]);
+        is("evaluation", answer(&strewn), answer(&plain))?;
+        strewn[1] = 21;
+        is("check of width 21", ours::validate(&strewn, &[0, 1, 2, 3], &mut [0; 4]), 2)?;
     }
     Ok(())
 }

@@ -1,4 +1,4 @@
-/* A recording fed in two pieces, searched both ways, and the finding evaluated on other bytes. Prints what it finds. */
+/* A recording fed in two pieces, searched both ways, and the finding evaluated on other bytes and on none. Prints what it finds. */
 #include "../jimrawel.h"
 
 #include <inttypes.h>
@@ -14,6 +14,13 @@ static double score(uint64_t bits) {
     double z;
     memcpy(&z, &bits, sizeof z);
     return z;
+}
+
+/* The third number is a z only where the second is 1. */
+static void print_evaluated(const uint64_t *evaluated) {
+    printf("positive %" PRIu64, evaluated[0]);
+    if (evaluated[1] == 1) printf(", z %g\n", score(evaluated[2]));
+    else printf(", no sample\n");
 }
 
 static int failed(const char *what, uint32_t refusal) {
@@ -47,10 +54,13 @@ int main(void) {
     for (size_t i = 0; i < BINS; i++) printf(" %" PRIu32, order[i]);
     printf(", division %" PRIu64 ", z %g\n", finding[JIMRAWEL_DIVISION], score(finding[JIMRAWEL_Z]));
 
-    refusal = jimrawel_evaluate_histogram(
-        finding, JIMRAWEL_FINDING, order, BINS, testing, sizeof testing, bins, BINS, evaluated, JIMRAWEL_EVALUATED);
-    if (refusal != JIMRAWEL_OK) return failed("evaluation", refusal);
-    printf("positive %" PRIu64 ", z %g\n", evaluated[0], score(evaluated[2]));
+    const size_t lengths[] = {sizeof testing, 0};
+    for (size_t i = 0; i < 2; i++) {
+        refusal = jimrawel_evaluate_histogram(
+            finding, JIMRAWEL_FINDING, order, BINS, testing, lengths[i], bins, BINS, evaluated, JIMRAWEL_EVALUATED);
+        if (refusal != JIMRAWEL_OK) return failed("evaluation", refusal);
+        print_evaluated(evaluated);
+    }
 
     static const uint8_t long_piece[61];
     refusal = jimrawel_feed(sampler, JIMRAWEL_SAMPLER, words, B, long_piece, sizeof long_piece);

@@ -63,7 +63,7 @@ readable l room e =
     let is : take (getD l 1 0) (drop 4 l) ≡ chosen f = chosen-read l (w .width) room in
     let size : length (chosen f) ≡ f .width = sym (ap length is) ∙ bits-lent l (w .width) room in
     let small : Below 4294967296 (chosen f) = λ i h.
-        omega (arith, bits-below (f .«block_size») (f .width) (chosen f) (accepted (f .«block_size») (f .width) (chosen f) size (p .1)) i h, valid-facts (f .«block_size») (w .valid) .high) in
+    omega (arith, bits-below (f .«block_size») (f .width) (chosen f) (accepted (f .«block_size») (f .width) (chosen f) size (p .1)) i h, valid-facts (f .«block_size») (w .valid) .high) in
     record { room = room; width = w .width; small = subst (Below 4294967296) (sym is) small }
 
 pub width-read : (f : Finding) → subsetRefusal f ≡ 0 → f .width ≤ 20
@@ -86,8 +86,8 @@ unfolding ReadsNoFurther
 reads-no-further l m e =
     let k : ℕ = min (getD l 1 0) 20 in
     let same : (i : ℕ) → i < 4 → getD l i 0 ≡ getD m i 0 = λ i h.
-        let below : i < 4 + k = omega arith in
-        sym (getD-take (4 + k) l i 0 below) ∙ ap (λ (t : List ℕ). getD t i 0) e ∙ getD-take (4 + k) m i 0 below in
+    let below : i < 4 + k = omega arith in
+    sym (getD-take (4 + k) l i 0 below) ∙ ap (λ (t : List ℕ). getD t i 0) e ∙ getD-take (4 + k) m i 0 below in
     let width : getD l 1 0 ≡ getD m 1 0 = same 1 (omega arith) in
     let size : getD l 0 0 ≡ getD m 0 0 = same 0 (omega arith) in
     let division : getD l 2 0 ≡ getD m 2 0 = same 2 (omega arith) in

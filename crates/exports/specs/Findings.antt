@@ -10,21 +10,21 @@ use Rattle.searching.specs.declared.finding.Finding.{Finding}
 use Rattle.judging.specs.Check.{chosen, limitRefusal}
 use Rattle.exports.specs.Records.{findingRead}
 
--- what its block size, its width and its bits are refused for: 1, 2, 9, 10
+-- what is refused by its block size, its width and its bits alone: 1, 2, 9, 10
 unfoldable pub subsetRefusal : Finding → ℕ
 subsetRefusal f = orElse (limitRefusal f) (bitsRefusal (f .«block_size») (chosen f))
 
--- the finding with a division that 32 bits hold; one that is larger, and so refused, is the largest, which is refused alike
+-- the finding with a division that 32 bits hold: the largest where it is larger, since 14 refuses both
 abbrev pub narrowed : Finding → Finding
 narrowed f = record { «block_size» = f .«block_size»; width = f .width; bits = f .bits; division = min (f .division) 4294967295; z = f .z }
 
--- a finding can be read: its width is one of an array of 20, and its bits fit 32 bits
+-- numbers that a finding can be read from: the width is at most 20, and each bit up to it fits 32 bits
 pub record Readable (l : List ℕ) : Type 0 where
   pub room : 24 ≤ length l
   pub width : getD l 1 0 ≤ 20
   pub small : Below 4294967296 (take (getD l 1 0) (drop 4 l))
 
--- Theorem: what stands past the bits that the width says is not read.
+-- Theorem: what stands past the bits of the width is not read.
 unfoldable pub ReadsNoFurther : Type 0
 ReadsNoFurther =
     (l m : List ℕ) → take (4 + min (getD l 1 0) 20) l ≡ take (4 + min (getD l 1 0) 20) m → findingRead l ≡ findingRead m

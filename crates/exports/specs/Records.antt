@@ -32,8 +32,7 @@ written numbers lent = numbers ++ drop (length numbers) lent
 abbrev pub shortRecord : ℕ
 shortRecord = 25
 
--- the finding whose numbers stand first, each as it stands there. Of the 20 bit entries as many are read as the width says; a z, which neither a check nor
--- an evaluation reads, is left at 0
+-- the finding whose numbers stand first, each as it stands. Bit entries past the width are not read and taken as 0; so is z, which judging does not use
 abbrev pub findingRead : List ℕ → Finding
 findingRead l =
     record {

@@ -33,12 +33,7 @@ pub fn validate_lent(numbers: &[u64], order: &[u32], scratch: &mut [u32]) -> u32
 }
 
 // The evaluation of the finding whose numbers stand first. Refusals 1, 2, 9, 10, 11, 12, 7, 13, 14.
-pub fn evaluate_lent(
-    numbers: &[u64],
-    order: &[u32],
-    bytes: &[u8],
-    scratch: &mut [u32],
-) -> Evaluated
+pub fn evaluate_lent(numbers: &[u64], order: &[u32], bytes: &[u8], scratch: &mut [u32]) -> Evaluated
     requires { ⌜ 24 ≤ length (now numbers) ⌝ }
     ensures { λ r. ⌜ r ≡ evaluatedOf (findingRead (now (numbers .entry))) (now (order .entry)) (now (bytes .entry)) (length (now (scratch .entry))) ⌝ }
     ensures { λ _. ⌜ now (scratch .exit) ≡ evaluatedScratch (findingRead (now (numbers .entry))) (now (order .entry)) (now (bytes .entry)) (now (scratch .entry)) ⌝ }
