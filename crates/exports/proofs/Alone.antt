@@ -1,6 +1,6 @@
 -- The refusals of a ranking of one subset: each test that gives one, and what a refusal of 0 tells.
 use mathlib.Core.Path.{_≡_, refl, sym, ap, _∙_}
-use mathlib.Core.Bool.{Bool, true, false, cond}
+use mathlib.Core.Bool.{true, false}
 use mathlib.Core.List.{List, _++_}
 use Prim.Native.Nat.{ℕ, zero, suc, _^_, _≤_, _<_}
 use native.Mathlib.Omega.{arith}
@@ -10,6 +10,8 @@ use borrow.Author.Tests.{le-leb, lt-leb, leb-true}
 use Rattle.counting.specs.Sample.{total}
 use Rattle.subsets.specs.Bits.{validWidth}
 use Rattle.subsets.proofs.Refusing.{width-bounds}
+use Rattle.searching.specs.Refusal.{bufferRefusal}
+use Rattle.searching.proofs.Refusing.{or-first, neither, passed, buffer-free}
 use Rattle.ranking.specs.Order.{orderOf}
 use Rattle.ranking.specs.Ranking.{scoreOf}
 use Rattle.ranking.specs.declared.ranking.Ranking.{Ranking}
@@ -27,25 +29,18 @@ module _ (k : ℕ) (bins : List ℕ) (order ranking : ℕ) where
     no-width w = simp (le-leb 2 ranking two, w)
 
     module _ (w : validWidth k ≡ true) where
-      pub no-bins : length bins < 2 ^ k → 7 ≡ rankingRefusal k bins order ranking
+      pub no-buffer : (r : ℕ) → r ≡ bufferRefusal k (length bins) order → (r ≡ 0 → ⊥) → r ≡ rankingRefusal k bins order ranking
       unfolding rankingRefusal
-      no-bins h = simp (le-leb 2 ranking two, w, lt-leb (2 ^ k) (length bins) h)
+      no-buffer r e h = simp (le-leb 2 ranking two, w) (e ∙ or-first (bufferRefusal k (length bins) order) _ (λ z. h (e ∙ z)))
 
-      module _ (b : 2 ^ k ≤ length bins) where
-        pub no-order : order < 2 ^ k → 7 ≡ rankingRefusal k bins order ranking
+      module _ (b : bufferRefusal k (length bins) order ≡ 0) where
+        pub too-many : 4294967295 < total (take (2 ^ k) bins) → 26 ≡ rankingRefusal k bins order ranking
         unfolding rankingRefusal
-        no-order h = simp (le-leb 2 ranking two, w, le-leb (2 ^ k) (length bins) b, lt-leb (2 ^ k) order h)
+        too-many h = simp (le-leb 2 ranking two, w, b, lt-leb (total (take (2 ^ k) bins)) 4294967295 h)
 
-        module _ (o : 2 ^ k ≤ order) where
-          pub too-many : 4294967295 < total (take (2 ^ k) bins) → 26 ≡ rankingRefusal k bins order ranking
-          unfolding rankingRefusal
-          too-many h =
-              simp (le-leb 2 ranking two, w, le-leb (2 ^ k) (length bins) b, le-leb (2 ^ k) order o, lt-leb (total (take (2 ^ k) bins)) 4294967295 h)
-
-          pub none : total (take (2 ^ k) bins) ≤ 4294967295 → 0 ≡ rankingRefusal k bins order ranking
-          unfolding rankingRefusal
-          none h =
-              simp (le-leb 2 ranking two, w, le-leb (2 ^ k) (length bins) b, le-leb (2 ^ k) order o, le-leb (total (take (2 ^ k) bins)) 4294967295 h)
+        pub none : total (take (2 ^ k) bins) ≤ 4294967295 → 0 ≡ rankingRefusal k bins order ranking
+        unfolding rankingRefusal
+        none h = simp (le-leb 2 ranking two, w, b, le-leb (total (take (2 ^ k) bins)) 4294967295 h)
 
 -- what a refusal of 0 tells
 pub record Rankable (k : ℕ) (bins : List ℕ) (order ranking : ℕ) : Type 0 where
@@ -55,24 +50,19 @@ pub record Rankable (k : ℕ) (bins : List ℕ) (order ranking : ℕ) : Type 0 w
   pub space : 2 ^ k ≤ order
   pub small : total (take (2 ^ k) bins) ≤ 4294967295
 
--- a test that gives a refusal m was passed
-passed : (t : Bool) (x m : ℕ) → 0 < m → cond t x m ≡ 0 → (t ≡ true) × (x ≡ 0)
-passed true x m pos e = (refl, e)
-passed false x m pos e = absurd (omega arith)
-
 pub rankable : (k : ℕ) (bins : List ℕ) (order ranking : ℕ) → rankingRefusal k bins order ranking ≡ 0 → Rankable k bins order ranking
 unfolding rankingRefusal
 rankable k bins order ranking e =
     let p = passed (leb 2 ranking) _ 25 (omega arith) e in
     let q = passed (validWidth k) _ 2 (omega arith) (p .1) in
-    let r = passed (leb (2 ^ k) (length bins)) _ 7 (omega arith) (q .1) in
-    let s = passed (leb (2 ^ k) order) _ 7 (omega arith) (r .1) in
-    let t = passed (leb (total (take (2 ^ k) bins)) 4294967295) 0 26 (omega arith) (s .1) in
+    let r = neither (bufferRefusal k (length bins) order) _ (q .1) in
+    let t = passed (leb (total (take (2 ^ k) bins)) 4294967295) 0 26 (omega arith) (r .1) in
+    let room = buffer-free k (length bins) order (r .0) in
     record {
       two = leb-true 2 ranking (p .0);
       width = width-bounds k (q .0) .1;
-      room = leb-true (2 ^ k) (length bins) (r .0);
-      space = leb-true (2 ^ k) order (s .0);
+      room = room .0;
+      space = room .1;
       small = leb-true (total (take (2 ^ k) bins)) 4294967295 (t .0);
     }
 

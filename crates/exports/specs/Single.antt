@@ -11,6 +11,7 @@ use Rattle.ranking.specs.Order.{orderOf}
 use Rattle.ranking.specs.Ranking.{scoreOf}
 use Rattle.ranking.specs.declared.ranking.Ranking.{Ranking}
 use Rattle.subsets.specs.Bits.{validWidth}
+use Rattle.searching.specs.Refusal.{orElse, bufferRefusal}
 use Rattle.exports.specs.Records.{written, shortRecord}
 
 -- the number, outside the rules', of counts that add up to 2 ^ 32 or more
@@ -22,11 +23,7 @@ unfoldable pub rankingRefusal : ℕ → List ℕ → ℕ → ℕ → ℕ
 rankingRefusal k bins order ranking =
     cond (leb 2 ranking)
     (cond (validWidth k)
-    (cond (leb (2 ^ k) (length bins))
-    (cond (leb (2 ^ k) order)
-    (cond (leb (total (take (2 ^ k) bins)) 4294967295) 0 tooManyCounted)
-    7)
-    7)
+    (orElse (bufferRefusal k (length bins) order) (cond (leb (total (take (2 ^ k) bins)) 4294967295) 0 tooManyCounted))
     2)
     shortRecord
 

@@ -5,6 +5,7 @@ ghost use lib.ListN.{length, take};
 ghost use Rattle.counting.specs.Sample.{total};
 ghost use Rattle.exports.specs.Single.{rankingRefusal};
 use ranking::ranking::bin_count;
+use searching::search::buffer_refusal;
 use subsets::bits::valid_width;
 
 // The sum of the first m counts.
@@ -31,14 +32,11 @@ pub fn ranking_refusal(k: usize, bins: &[u32], order: usize, ranking: usize) -> 
     if !valid_width(k) {
         return 2;
     }
-    let m = bin_count(k);
-    if bins.len() < m {
-        return 7;
+    let refusal = buffer_refusal(k, bins.len(), order);
+    if refusal != 0 {
+        return refusal;
     }
-    if order < m {
-        return 7;
-    }
-    if total_of(bins, m) > 4294967295 {
+    if total_of(bins, bin_count(k)) > 4294967295 {
         return 26;
     }
     0
