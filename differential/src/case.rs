@@ -1,13 +1,14 @@
 //! What is asked of every drawn case.
 
+use crate::account::Account;
 use answers::run::Case;
 
 /// What differs, in words.
 pub type Checked = Result<(), String>;
 
 pub trait Compared: Sized {
-    /// Makes our calls and the reference's.
-    fn check(&self) -> Checked;
+    /// Makes our calls and the reference's. Each search of a recording is entered in the account: compared, or left out since it takes too long.
+    fn check(&self, searches: &mut Account) -> Checked;
 
     /// Cases that are smaller by one step.
     fn smaller(&self) -> Vec<Self>;
@@ -15,7 +16,7 @@ pub trait Compared: Sized {
 
 pub fn kind(case: &Case) -> &'static str {
     match case {
-        Case::Recording(_) => "recordings searched",
+        Case::Recording(_) => "recordings",
         Case::Ranking(_) => "rankings",
         Case::Rank(_) => "ranks",
         Case::Judged(_) => "checks and evaluations",
@@ -25,14 +26,14 @@ pub fn kind(case: &Case) -> &'static str {
 }
 
 impl Compared for Case {
-    fn check(&self) -> Checked {
+    fn check(&self, searches: &mut Account) -> Checked {
         match self {
-            Case::Recording(case) => case.check(),
-            Case::Ranking(case) => case.check(),
-            Case::Rank(case) => case.check(),
-            Case::Judged(case) => case.check(),
-            Case::Split(case) => case.check(),
-            Case::Plan(case) => case.check(),
+            Case::Recording(case) => case.check(searches),
+            Case::Ranking(case) => case.check(searches),
+            Case::Rank(case) => case.check(searches),
+            Case::Judged(case) => case.check(searches),
+            Case::Split(case) => case.check(searches),
+            Case::Plan(case) => case.check(searches),
         }
     }
 
@@ -50,7 +51,7 @@ impl Compared for Case {
 
 /// A case that differs, made smaller for as long as a smaller one differs.
 pub fn shrink(mut case: Case) -> Case {
-    while let Some(smaller) = case.smaller().into_iter().find(|smaller| smaller.check().is_err()) {
+    while let Some(smaller) = case.smaller().into_iter().find(|smaller| smaller.check(&mut Account::default()).is_err()) {
         case = smaller;
     }
     case

@@ -1,5 +1,6 @@
 //! Checks and evaluations of findings, sound and unsound ones; splits; sweep plans.
 
+use crate::account::Account;
 use crate::case::{fewer, same, Checked, Compared};
 use crate::ours;
 use answers::run::{Judged, Plan, Split};
@@ -8,7 +9,7 @@ use answers::{configurations, evaluate_histogram, valid, validate, whole_blocks,
 const LENT: u32 = 0xABCD;
 
 impl Compared for Judged {
-    fn check(&self) -> Checked {
+    fn check(&self, _: &mut Account) -> Checked {
         let finding = finding_of(self);
         let mut numbers = [0; 24];
         numbers[..4].copy_from_slice(&[self.block_size as u64, self.width as u64, self.division as u64, u64::MAX]);
@@ -86,7 +87,7 @@ fn refusal(case: &Judged, finding: &Finding, scratch: usize) -> u32 {
 }
 
 impl Compared for Split {
-    fn check(&self) -> Checked {
+    fn check(&self, _: &mut Account) -> Checked {
         let (refusal, lengths) = ours::whole_blocks(&self.raw, self.block_size, self.training);
         if !valid(self.block_size) {
             return same("split", (refusal, lengths), (1, [0; 2]));
@@ -106,7 +107,7 @@ impl Compared for Split {
 }
 
 impl Compared for Plan {
-    fn check(&self) -> Checked {
+    fn check(&self, _: &mut Account) -> Checked {
         let (refusal, plan) = ours::configurations(self.block_size, self.data_size);
         if !valid(self.block_size) {
             return same("plan", (refusal, plan), (1, [0; 15]));

@@ -1,30 +1,36 @@
-//! Our calls against the reference's, on drawn cases: `differential [SEED [CASES]]`. Or their times: `differential bench`. Or what is known to differ:
-//! `differential differences`.
+//! Our calls against the reference's, on drawn cases: `differential [SEED [CASES]]`. Or on recordings that take too long to be drawn: `differential widths`,
+//! `differential capacity`, `differential wide WIDTH [reference]`. Or what is known to differ: `differential differences`. Or their times:
+//! `differential bench`. Or the stack that our calls take: `differential stack`.
 
+mod account;
 mod bench;
+mod capacity;
 mod case;
 mod differences;
 mod judging;
 mod ours;
 mod rankings;
 mod recordings;
+mod stack;
 mod wide;
+mod widths;
 
+use account::{Account, Run};
 use answers::run::Case;
 use case::{kind, shrink, Compared};
-use std::{collections::BTreeMap, env, process::exit, time::Instant, time::SystemTime};
+use std::{env, time::SystemTime};
 
 fn main() {
     let args: Vec<String> = env::args().skip(1).collect();
     let first = args.first().map(String::as_str);
-    if first == Some("bench") {
-        return bench::run();
-    }
-    if first == Some("differences") {
-        return differences::run();
-    }
-    if first == Some("wide") {
-        return wide::run(args.get(1).expect("the width"), args.get(2).map(String::as_str));
+    match first {
+        Some("bench") => return bench::run(),
+        Some("capacity") => return capacity::run(),
+        Some("differences") => return differences::run(),
+        Some("stack") => return stack::run(),
+        Some("wide") => return wide::run(args.get(1).expect("the width"), args.get(2).map(String::as_str)),
+        Some("widths") => return widths::run(),
+        _ => (),
     }
     let seed = match first {
         Some(arg) => arg.parse().expect("the seed is a number"),
@@ -37,23 +43,18 @@ fn main() {
 
 /// Draws and compares; a case that differs is made smaller and printed whole, and ends the run.
 fn compare(seed: u64, cases: u64) {
-    let start = Instant::now();
-    let mut kinds: BTreeMap<&str, u64> = BTreeMap::new();
+    let mut run = Run::new();
     for number in 0..cases {
         let case = Case::of_run(seed, number);
-        *kinds.entry(kind(&case)).or_default() += 1;
-        if let Err(what) = case.check() {
+        let mut searches = Account::default();
+        if let Err(what) = case.check(&mut searches) {
             println!("case {number} differs: {what}");
             let case = shrink(case);
-            println!("made smaller: {}", case.check().unwrap_err());
+            println!("made smaller: {}", case.check(&mut searches).unwrap_err());
             println!("{case:?}");
-            println!("{} compared, 1 different", number + 1);
-            exit(1);
+            run.fail();
         }
+        run.enter(kind(&case), searches);
     }
-    for (kind, count) in kinds {
-        println!("{kind}: {count}");
-    }
-    println!("{:.0} seconds, seed {seed}", start.elapsed().as_secs_f64());
-    println!("{cases} compared, 0 different");
+    run.close(&format!("seed {seed}"));
 }

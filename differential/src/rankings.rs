@@ -1,12 +1,13 @@
 //! Rankings of one subset by its counts, and ranks of subsets.
 
+use crate::account::Account;
 use crate::case::{fewer, same, Checked, Compared};
 use crate::ours;
 use answers::run::{Rank, Ranking};
 use answers::{choose, compute_index, from_bins, valid};
 
 impl Compared for Ranking {
-    fn check(&self) -> Checked {
+    fn check(&self, _: &mut Account) -> Checked {
         let (k, lent) = (self.k, 0xABCD);
         let mut order = vec![lent; self.order];
         let mut ranking = [9; 3];
@@ -38,7 +39,7 @@ impl Compared for Ranking {
 }
 
 impl Compared for Rank {
-    fn check(&self) -> Checked {
+    fn check(&self, _: &mut Account) -> Checked {
         let (refusal, rank) = ours::rank(self.block_size, &self.bits);
         same("refusal", refusal, rank_refusal(self))?;
         if refusal != 0 {

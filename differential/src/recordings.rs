@@ -1,11 +1,15 @@
 //! Recordings fed in pieces and searched both ways.
 
+use crate::account::Account;
 use crate::case::{fewer, same, Checked, Compared};
 use crate::ours::{self, Searched};
 use answers::run::Recording;
 use answers::{bottomup, capacity_bytes, choose, evaluate_histogram, transform_data, valid, Finding};
 
 pub const LENT: u32 = 0xABCD;
+
+/// How much a layered search of a drawn recording may work, some ten seconds of the reference's; one that works more is left out.
+const WORK: usize = 2_000_000_000;
 
 /// How much a layered search works: the reference ranks a subset of the layer below for each bin of each layer.
 fn layered_work(block_size: usize, k: usize) -> usize {
@@ -19,31 +23,8 @@ pub fn store_size(block_size: usize, k: usize) -> Option<usize> {
 }
 
 impl Compared for Recording {
-    fn check(&self) -> Checked {
-        let mut words = vec![u64::MAX; self.words];
-        let mut sampler = [5; 3];
-        let refusal = ours::start(self.block_size, &mut words, &mut sampler);
-        if !valid(self.block_size) {
-            same("start's refusal", refusal, 1)?;
-            same("sampler beside a refusal", sampler, [0; 3])?;
-            return same("words as lent", words, vec![u64::MAX; self.words]);
-        }
-        same("start's refusal", refusal, 0)?;
-        let mut held = Vec::new();
-        for piece in &self.pieces {
-            let fits = held.len() + piece.len() <= capacity_bytes(self.block_size, self.words);
-            same("feed's refusal", ours::feed(&mut sampler, &mut words, piece), if fits { 0 } else { 5 })?;
-            if fits {
-                held.extend(piece);
-            }
-            same("sampler", sampler, [self.block_size as u64, self.words as u64, held.len() as u64])?;
-        }
-        check_rows(self, &words, &held)?;
-        if self.stale {
-            sampler[2] = capacity_bytes(self.block_size, self.words) as u64 + 1;
-            same("feed with a sampler past capacity", ours::feed(&mut sampler, &mut words, &[]), 4)?;
-        }
-        check_searches(self, &sampler, &words, &held)
+    fn check(&self, searches: &mut Account) -> Checked {
+        compare(self, WORK, searches)
     }
 
     fn smaller(&self) -> Vec<Recording> {
@@ -71,40 +52,73 @@ impl Compared for Recording {
     }
 }
 
-fn check_rows(case: &Recording, words: &[u64], held: &[u8]) -> Checked {
-    let rows = transform_data(held, case.block_size);
-    let (n, stride) = (rows.num_of_blocks(), case.words / case.block_size);
-    for bit in 0..case.block_size {
-        for i in 0..n.div_ceil(64) {
-            let lanes = if n - 64 * i < 64 { (1 << (n - 64 * i)) - 1 } else { u64::MAX };
-            same("a row's word", words[bit * stride + i] & lanes, rows.word(bit, i) & lanes)?;
-        }
+/// Feeds and searches a recording on both sides; a layered search that works more than this is left out.
+pub fn compare(case: &Recording, work: usize, searches: &mut Account) -> Checked {
+    let mut words = vec![u64::MAX; case.words];
+    let mut sampler = [5; 3];
+    let refusal = ours::start(case.block_size, &mut words, &mut sampler);
+    if !valid(case.block_size) {
+        same("start's refusal", refusal, 1)?;
+        same("sampler beside a refusal", sampler, [0; 3])?;
+        return same("words as lent", words, vec![u64::MAX; case.words]);
     }
-    Ok(())
+    same("start's refusal", refusal, 0)?;
+    let mut held = Vec::new();
+    for piece in &case.pieces {
+        let fits = held.len() + piece.len() <= capacity_bytes(case.block_size, case.words);
+        same("feed's refusal", ours::feed(&mut sampler, &mut words, piece), if fits { 0 } else { 5 })?;
+        if fits {
+            held.extend(piece);
+        }
+        same("sampler", sampler, [case.block_size as u64, case.words as u64, held.len() as u64])?;
+    }
+    if case.stale {
+        sampler[2] = capacity_bytes(case.block_size, case.words) as u64 + 1;
+        let lent = sampler;
+        same("feed with a sampler past capacity", ours::feed(&mut sampler, &mut words, &[0xFF]), 4)?;
+        same("sampler past capacity", sampler, lent)?;
+    }
+    check_words(case, &words, &held)?;
+    check_searches(case, &sampler, &words, &held, work, searches)
 }
 
-fn check_searches(case: &Recording, sampler: &[u64], words: &[u64], held: &[u8]) -> Checked {
+/// All words: the reference's rows, to which an unfinished block adds its bits, and 0 everywhere else.
+fn check_words(case: &Recording, words: &[u64], held: &[u8]) -> Checked {
+    let size = case.block_size / 8;
+    let mut filled = held.to_vec();
+    filled.resize(held.len().div_ceil(size) * size, 0);
+    let rows = transform_data(&filled, case.block_size);
+    let (used, stride) = (rows.num_of_blocks().div_ceil(64), case.words / case.block_size);
+    for bit in 0..case.block_size {
+        for i in 0..stride {
+            same("a row's word", words[bit * stride + i], if i < used { rows.word(bit, i) } else { 0 })?;
+        }
+    }
+    same("the words past the rows", words[case.block_size * stride..].iter().all(|&word| word == 0), true)
+}
+
+fn check_searches(case: &Recording, sampler: &[u64], words: &[u64], held: &[u8], work: usize, searches: &mut Account) -> Checked {
     let m = 1_isize << case.k.min(20);
     let mut bins = vec![LENT; (m + case.bins) as usize];
     let mut order = vec![LENT; (m + case.order) as usize];
     let direct = ours::direct(sampler, words, case.k, &mut bins, &mut order);
     check_search(case, "direct", 1, refusal(case, false), held, &direct, &bins, &order)?;
+    searches.add(entry("direct", direct.refusal), true);
 
-    let searchable = case.searchable();
-    let size = if searchable { store_size(case.block_size, case.k) } else { Some(2) };
-    let Some(size) = size.filter(|&size| size <= 1 << 25) else {
-        let layered = ours::layered(sampler, words, case.k, &mut [], &mut [], &mut [], &mut []);
-        return same("layered: refusal without stores", layered.refusal, if case.stale { 4 } else { 6 });
-    };
-    if searchable && layered_work(case.block_size, case.k) > 150_000_000 {
+    let expected = refusal(case, true);
+    let size = if case.searchable() { store_size(case.block_size, case.k) } else { None };
+    if size.is_some() && layered_work(case.block_size, case.k) > work {
+        searches.add(entry("layered", expected), false);
         return Ok(());
     }
+    // Without a size the search is refused whatever the stores.
+    let size = size.unwrap_or(2);
     let mut stores = case.stores.map(|more| vec![LENT; (size as isize + more) as usize]);
     let mut layered_bins = vec![LENT; bins.len()];
     let mut layered_order = vec![LENT; order.len()];
     let [first, second] = &mut stores;
     let layered = ours::layered(sampler, words, case.k, first, second, &mut layered_bins, &mut layered_order);
-    check_search(case, "layered", 0, refusal(case, true), held, &layered, &layered_bins, &layered_order)?;
+    check_search(case, "layered", 0, expected, held, &layered, &layered_bins, &layered_order)?;
     for store in &stores {
         let free = if layered.refusal == 0 { size } else { 0 };
         same("the rest of a store", &store[free..], &vec![LENT; store.len() - free][..])?;
@@ -114,10 +128,21 @@ fn check_searches(case: &Recording, sampler: &[u64], words: &[u64], held: &[u8])
         same("both searches' counts", &layered_bins, &bins)?;
         same("both searches' orders", &layered_order, &order)?;
     }
+    searches.add(entry("layered", expected), true);
     Ok(())
 }
 
-/// The first refusal that applies to a search, where the store's size is not above 2^32.
+/// What a search is entered as.
+fn entry(name: &str, refusal: u32) -> &'static str {
+    match (name, refusal) {
+        ("direct", 0) => "searches, direct",
+        ("direct", _) => "searches, direct, refused",
+        (_, 0) => "searches, layered",
+        _ => "searches, layered, refused",
+    }
+}
+
+/// The first refusal that applies to a search.
 fn refusal(case: &Recording, layered: bool) -> u32 {
     if case.stale {
         4
@@ -125,7 +150,7 @@ fn refusal(case: &Recording, layered: bool) -> u32 {
         2
     } else if case.k > case.block_size {
         3
-    } else if layered && case.stores.iter().any(|&more| more < 0) {
+    } else if layered && (store_size(case.block_size, case.k).is_none() || case.stores.iter().any(|&more| more < 0)) {
         6
     } else if case.bins < 0 || case.order < 0 {
         7

@@ -1,0 +1,71 @@
+//! Recordings at capacity, 16,777,216 blocks, fed in uneven pieces and searched both ways, and as many blocks evaluated. Bytes of few values or of a short
+//! period, so that scores tie, and drawn ones.
+
+use crate::account::Run;
+use crate::case::Compared;
+use answers::run::{Judged, Recording};
+use answers::{capacity_bytes, recording, Draws};
+use std::ops::RangeInclusive;
+
+const BLOCKS: usize = 16_777_216;
+
+/// A block size, the kind of the bytes (`answers::recording`), the widths, and how many words are lent beyond those that capacity needs.
+const RECORDINGS: [(usize, usize, RangeInclusive<usize>, usize); 9] = [
+    (8, 0, 1..=8, 0),
+    (8, 1, 1..=3, 7),
+    (8, 3, 1..=8, 25),
+    (8, 4, 1..=3, 0),
+    (8, 2, 1..=8, 8),
+    (16, 5, 1..=3, 0),
+    (16, 3, 1..=2, 49),
+    (16, 2, 1..=3, 15),
+    (64, 5, 1..=2, 65),
+];
+
+pub fn run() {
+    let mut run = Run::new();
+    for (number, (block_size, bytes, widths, more)) in RECORDINGS.into_iter().enumerate() {
+        let draws = &mut Draws::new(number as u64);
+        let held = recording(draws, bytes, BLOCKS * block_size / 8);
+        for k in widths {
+            let words = BLOCKS / 64 * block_size + more;
+            let pieces = pieces(draws, &held, capacity_bytes(block_size, words));
+            println!("B {block_size}, bytes of kind {bytes}, k {k}: {words} words, {} pieces", pieces.len());
+            let case = Recording { block_size, words, pieces, k, bins: 1, order: 0, stores: [0, 1], stale: false };
+            run.compare("recordings", |searches| case.check(searches));
+        }
+        run.compare("checks and evaluations", |searches| judged(draws, block_size, held).check(searches));
+    }
+    run.close("capacity");
+}
+
+/// All bytes in pieces of no byte to some millions, before one of them a piece that is a byte too long, and then a byte more and no byte more.
+fn pieces(draws: &mut Draws, held: &[u8], capacity: usize) -> Vec<Vec<u8>> {
+    let (mut pieces, mut at) = (vec![], 0);
+    while at < held.len() {
+        let magnitude = draws.below(23);
+        let end = held.len().min(at + draws.below(1 << magnitude));
+        pieces.push(held[at..end].to_vec());
+        at = end;
+    }
+    let place = draws.below(pieces.len());
+    let before: usize = pieces[..place].iter().map(Vec::len).sum();
+    pieces.insert(place, vec![0xFF; capacity - before + 1]);
+    pieces.extend([vec![0xFF], vec![]]);
+    pieces
+}
+
+/// As many blocks and a part of one to be evaluated, by a finding of drawn bits with the bins from the last to the first.
+fn judged(draws: &mut Draws, block_size: usize, mut bytes: Vec<u8>) -> Judged {
+    let width = 4;
+    bytes.extend(vec![0xFF; block_size / 8 - 1]);
+    Judged {
+        block_size,
+        width,
+        bits: draws.subset(block_size, width).into_iter().map(|bit| bit as u32).collect(),
+        division: 5,
+        order: (0..1 << width).rev().collect(),
+        bytes,
+        scratch: 1,
+    }
+}

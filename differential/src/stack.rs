@@ -1,0 +1,189 @@
+//! The stack that each of our calls takes at its widest, measured: a call runs on a thread whose stack is painted before, and what it took reaches from
+//! the thread's own frame down to the last word that is no longer paint. No reference is needed.
+
+use crate::recordings::store_size;
+use answers::Draws;
+use jimrawel::calls;
+use std::ffi::c_void;
+use std::sync::atomic::{AtomicBool, AtomicUsize, Ordering};
+use std::{hint::black_box, process::exit, ptr, thread, time::Duration, time::Instant};
+
+/// What include/jimrawel.h says that a thread needs, in KB. The last quarter is kept for the thread itself and for another compiler or C library.
+const PROMISED: usize = 128;
+
+/// Words of the painted stack, and the paint.
+const WORDS: usize = 1 << 17;
+const PAINT: u64 = 0xA5C3_96E1_5A3C_691E;
+
+/// How long a call may run before the stack is looked at: one that takes hours has been at its deepest by then, with its first set of bits.
+const SECONDS: u64 = 20;
+
+/// A call that is measured: where its thread's own frame lies, and whether it has returned.
+struct Measured {
+    call: Box<dyn FnMut()>,
+    top: AtomicUsize,
+    returned: AtomicBool,
+}
+
+/// Room for what the C library keeps of a thread to be made.
+#[repr(C)]
+struct Attributes([u64; 16]);
+
+extern "C" {
+    fn pthread_attr_init(attributes: *mut Attributes) -> i32;
+    fn pthread_attr_setstack(attributes: *mut Attributes, stack: *mut c_void, bytes: usize) -> i32;
+    fn pthread_create(thread: *mut usize, attributes: *const Attributes, run: extern "C" fn(*mut c_void) -> *mut c_void, of: *mut c_void) -> i32;
+}
+
+extern "C" fn make(measured: *mut c_void) -> *mut c_void {
+    let measured: *mut Measured = measured.cast();
+    let frame = 0_u64;
+    unsafe {
+        (*measured).top.store(black_box(&frame) as *const u64 as usize, Ordering::SeqCst);
+        ((*measured).call)();
+        (*measured).returned.store(true, Ordering::SeqCst);
+    }
+    ptr::null_mut()
+}
+
+/// The bytes that a call takes, and whether it has returned. Nothing is freed: a call that is not waited for still uses its stack.
+fn measure(call: Box<dyn FnMut()>) -> (usize, bool) {
+    let measured = Box::into_raw(Box::new(Measured { call, top: AtomicUsize::new(0), returned: AtomicBool::new(false) }));
+    let returned = || unsafe { (*measured).returned.load(Ordering::SeqCst) };
+    let stack = vec![PAINT; WORDS + 8].leak().as_mut_ptr();
+    let aligned = (stack as usize).next_multiple_of(64) as *mut u64;
+    let (mut attributes, mut thread) = (Attributes([0; 16]), 0);
+    unsafe {
+        assert_eq!(pthread_attr_init(&mut attributes), 0);
+        assert_eq!(pthread_attr_setstack(&mut attributes, aligned.cast(), 8 * WORDS), 0);
+        assert_eq!(pthread_create(&mut thread, &attributes, make, measured.cast()), 0);
+    }
+    let start = Instant::now();
+    while !returned() && start.elapsed() < Duration::from_secs(SECONDS) {
+        thread::sleep(Duration::from_millis(2));
+    }
+    let untouched = (0..WORDS).take_while(|&i| unsafe { aligned.add(i).read_volatile() } == PAINT).count();
+    let top = unsafe { (*measured).top.load(Ordering::SeqCst) };
+    (top - (aligned as usize + 8 * untouched), returned())
+}
+
+struct Table {
+    most: usize,
+    calls: usize,
+}
+
+impl Table {
+    fn row(&mut self, call: &str, at: &str, made: impl FnMut() + 'static) {
+        let (bytes, returned) = measure(Box::new(made));
+        println!("| {call} | {at}{} | {bytes} |", if returned { "" } else { ", not ended" });
+        self.most = self.most.max(bytes);
+        self.calls += 1;
+    }
+}
+
+pub fn run() {
+    let mut table = Table { most: 0, calls: 0 };
+    println!("| Call | At | Bytes of stack |");
+    println!("|---|---|---|");
+    feeding(&mut table);
+    ranking(&mut table);
+    judging(&mut table);
+    for (block_size, k, blocks) in [(8, 1, 40_000), (8, 8, 40_000), (16, 16, 40_000), (4096, 1, 65), (512, 3, 65), (4096, 2, 65)] {
+        layered(&mut table, block_size, k, blocks);
+    }
+    for (block_size, k, blocks) in [(8, 1, 40_000), (8, 8, 40_000), (16, 16, 40_000), (4096, 1, 65), (4096, 2, 65), (24, 20, 65)] {
+        direct(&mut table, block_size, k, blocks);
+    }
+    layered(&mut table, 4096, 3, 65);
+    println!("{} bytes at the most in {} calls, {} promised", table.most, table.calls, 1024 * PROMISED);
+    exit(if table.most > 1024 * PROMISED * 3 / 4 { 1 } else { 0 });
+}
+
+/// A sampler of drawn bytes and its words.
+fn fed(block_size: usize, blocks: usize) -> (Vec<u64>, Vec<u64>) {
+    let (mut sampler, mut words) = (vec![0; 3], vec![0; block_size * blocks.div_ceil(64)]);
+    assert_eq!(calls::start(block_size, &mut words, &mut sampler), 0);
+    assert_eq!(calls::feed(&mut sampler, &mut words, &Draws::new(3).bytes(blocks * block_size / 8)), 0);
+    (sampler, words)
+}
+
+fn feeding(table: &mut Table) {
+    for block_size in [8, 4096] {
+        let (mut sampler, mut words) = (vec![0; 3], vec![1; 1 << 20]);
+        table.row("jimrawel_start", &format!("B {block_size}"), move || {
+            assert_eq!(calls::start(black_box(block_size), &mut words, &mut sampler), 0);
+        });
+        let (mut sampler, mut words) = (vec![0; 3], vec![1; 1 << 20]);
+        let pieces = [1, 0, 777, 100_000].map(|bytes| Draws::new(3).bytes(bytes));
+        assert_eq!(calls::start(block_size, &mut words, &mut sampler), 0);
+        table.row("jimrawel_feed", &format!("B {block_size}"), move || {
+            for piece in &pieces {
+                assert_eq!(calls::feed(&mut sampler, &mut words, black_box(piece)), 0);
+            }
+        });
+    }
+}
+
+fn direct(table: &mut Table, block_size: usize, k: usize, blocks: usize) {
+    let (sampler, words) = fed(block_size, blocks);
+    let (mut bins, mut order, mut finding) = (vec![0; 1 << k], vec![0; 1 << k], [0; 24]);
+    table.row("jimrawel_brute_force_threads", &format!("B {block_size}, k {k}, {blocks} blocks"), move || {
+        assert_eq!(calls::brute_force_threads(&sampler, &words, k, &mut bins, &mut order, &mut finding), 0);
+    });
+}
+
+fn layered(table: &mut Table, block_size: usize, k: usize, blocks: usize) {
+    let (sampler, words) = fed(block_size, blocks);
+    let size = store_size(block_size, k).unwrap();
+    let (mut first, mut second) = (vec![0; size], vec![0; size]);
+    let (mut bins, mut order, mut finding) = (vec![0; 1 << k], vec![0; 1 << k], [0; 24]);
+    table.row("jimrawel_brute_force", &format!("B {block_size}, k {k}, {blocks} blocks"), move || {
+        assert_eq!(calls::brute_force(&sampler, &words, k, [&mut first, &mut second], &mut bins, &mut order, &mut finding), 0);
+    });
+}
+
+fn ranking(table: &mut Table) {
+    for (block_size, k) in [(4096, 2), (32, 20)] {
+        let (bits, mut rank): (Vec<u32>, _) = ((block_size as u32 - k..block_size as u32).collect(), 0);
+        table.row("jimrawel_compute_index", &format!("B {block_size}, k {k}"), move || {
+            assert_eq!(calls::compute_index(block_size, black_box(&bits), &mut rank), 0);
+        });
+    }
+    for (k, end) in [(1, 5), (7, 5), (8, 5), (20, 5), (20, 4000)] {
+        let mut draws = Draws::new(4);
+        let bins: Vec<u32> = (0..1 << k).map(|_| draws.below(end) as u32).collect();
+        let (mut order, mut ranked) = (vec![0; 1 << k], [0; 2]);
+        table.row("jimrawel_from_bins", &format!("k {k}, counts below {end}"), move || {
+            assert_eq!(calls::from_bins(k, black_box(&bins), &mut order, &mut ranked), 0);
+        });
+    }
+}
+
+fn judging(table: &mut Table) {
+    for (block_size, k) in [(8, 1), (24, 20), (4096, 20)] {
+        let bits = Draws::new(5).subset(block_size, k);
+        let mut finding = [0; 24];
+        finding[..3].copy_from_slice(&[block_size as u64, k as u64, 1]);
+        for (number, bit) in finding[4..].iter_mut().zip(bits) {
+            *number = bit as u64;
+        }
+        let order: Vec<u32> = (0..1 << k).rev().collect();
+        let (again, mut scratch) = (order.clone(), vec![0; 1 << k]);
+        table.row("jimrawel_validate", &format!("B {block_size}, k {k}"), move || {
+            assert_eq!(calls::validate(black_box(&finding), &again, &mut scratch), 0);
+        });
+        let (bytes, mut scratch, mut evaluated) = (Draws::new(6).bytes(100_000), vec![0; 1 << k], [0; 3]);
+        table.row("jimrawel_evaluate_histogram", &format!("B {block_size}, k {k}"), move || {
+            assert_eq!(calls::evaluate_histogram(black_box(&finding), &order, &bytes, &mut scratch, &mut evaluated), 0);
+        });
+    }
+    for block_size in [8, 4096] {
+        let (raw, mut lengths, mut plan) = (vec![0; 100_000], [0; 2], [0; 15]);
+        table.row("jimrawel_whole_blocks", &format!("B {block_size}"), move || {
+            assert_eq!(calls::whole_blocks(black_box(&raw), block_size, true, &mut lengths), 0);
+        });
+        table.row("jimrawel_configurations", &format!("B {block_size}"), move || {
+            assert_eq!(calls::configurations(black_box(block_size), 1_000_000, &mut plan), 0);
+        });
+    }
+}

@@ -1,0 +1,32 @@
+//! One recording of a few blocks for each block size and each width whose searches take the reference some minutes at the most. Wide searches of small
+//! blocks and narrow ones of large blocks are drawn too seldom to be relied on.
+
+use crate::account::Run;
+use crate::recordings::compare;
+use answers::run::Recording;
+use answers::{cut, recording, Draws};
+
+/// Block sizes and their greatest widths.
+const SIZES: [(usize, usize); 12] =
+    [(8, 8), (16, 16), (24, 8), (32, 6), (40, 5), (64, 4), (128, 3), (256, 3), (512, 2), (1024, 2), (2048, 2), (4096, 2)];
+
+/// How much a layered search may work: B 4,096 at width 2 is the most.
+const WORK: usize = 40_000_000_000;
+
+pub fn run() {
+    let mut run = Run::new();
+    for (block_size, widest) in SIZES {
+        for k in 1..=widest {
+            println!("B {block_size}, k {k}");
+            run.compare("recordings", |searches| compare(&drawn(block_size, k), WORK, searches));
+        }
+    }
+    run.close("widths");
+}
+
+/// 70 blocks and a part of one, of two values, a short period or few values, so that scores tie.
+fn drawn(block_size: usize, k: usize) -> Recording {
+    let draws = &mut Draws::new((block_size * 32 + k) as u64);
+    let held = recording(draws, [5, 0, 3][k % 3], 70 * block_size / 8 + block_size / 16);
+    Recording { block_size, words: 2 * block_size + 3, pieces: cut(draws, &held, 4), k, bins: 0, order: 1, stores: [1, 0], stale: false }
+}
