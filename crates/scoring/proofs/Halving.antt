@@ -9,7 +9,7 @@ use lib.IntN.{ℤ, pos, negsuc}
 use lib.ListN.{length, getD}
 use lib.Ieee.{Float, nan, inf, fin, binary64, mul}
 use lib.Ieee.Fits.{and-l, and-r}
-use Rattle.scoring.specs.Halves.{one, half, halfPower, Halving}
+use Rattle.scoring.specs.Halves.{one, half, halfPower, Halving, halfPowers, TableHalves}
 
 -- ---- a test of equality
 abbrev samePower : ℤ → ℤ → Bool
@@ -78,15 +78,6 @@ entry rule zero h = rule .first
 entry rule (suc k) h = rule .next k h ∙ ap (λ (x : Float). mul binary64 x half) (entry rule k (le-of-suc-le h))
 
 -- ---- the table of `src/halves.rt`
-unfoldable pub table : List Float
-table =
-    one
-    ∷ fin false 1 (negsuc 0) ∷ fin false 1 (negsuc 1) ∷ fin false 1 (negsuc 2) ∷ fin false 1 (negsuc 3) ∷ fin false 1 (negsuc 4)
-    ∷ fin false 1 (negsuc 5) ∷ fin false 1 (negsuc 6) ∷ fin false 1 (negsuc 7) ∷ fin false 1 (negsuc 8) ∷ fin false 1 (negsuc 9)
-    ∷ fin false 1 (negsuc 10) ∷ fin false 1 (negsuc 11) ∷ fin false 1 (negsuc 12) ∷ fin false 1 (negsuc 13) ∷ fin false 1 (negsuc 14)
-    ∷ fin false 1 (negsuc 15) ∷ fin false 1 (negsuc 16) ∷ fin false 1 (negsuc 17) ∷ fin false 1 (negsuc 18) ∷ fin false 1 (negsuc 19)
-    ∷ []
-
-pub table-halves : Halving table
-unfolding table mul
-table-halves = halving table tt
+pub table-halves : TableHalves
+unfolding halfPowers mul
+table-halves = halving halfPowers tt

@@ -50,10 +50,10 @@ RightRoot (fin s zero e) r = r ≡ fin s zero e
 RightRoot (fin true (suc m) e) r = r ≡ nan
 RightRoot (fin false (suc m) e) r = IsRoot (fin false (suc m) e) r
 
--- `root` is right at every double
+-- Theorem: `root` is right at every double.
 abbrev pub RootIsRight : Type 0
 RootIsRight = (x : Float) → T (fits binary64 x) → RightRoot x (root x)
 
--- and nothing else is
+-- Theorem: and nothing else is.
 abbrev pub RootIsAlone : Type 0
 RootIsAlone = (x r : Float) → T (fits binary64 x) → RightRoot x r → r ≡ root x

@@ -30,10 +30,10 @@ abs (fin s m e) = fin false m e
 abbrev pub Number : Float → Type 0
 Number x = T (not (isNan x))
 
--- the score is a number at every share that a search tries, for n from 1 to 16,777,216, whatever c is
+-- Theorem: the score is a number at every share that a search tries, for n from 1 to 16,777,216, whatever c is.
 abbrev pub ScoreIsNumber : Type 0
 ScoreIsNumber = (i k n : ℕ) → 1 ≤ i → i < 2 ^ k → k ≤ 20 → 1 ≤ n → n ≤ 16777216 → (c : ℕ) → Number (zScore n c (part i k))
 
--- that of an empty sample is NaN, which is above nothing: so an empty sample keeps the division and the z that a search starts from
+-- Theorem: that of an empty sample is NaN, which is above nothing: so an empty sample keeps the division and the z that a search starts from.
 abbrev pub EmptyIsNan : Type 0
 EmptyIsNan = (p : Float) → zScore 0 0 p ≡ nan

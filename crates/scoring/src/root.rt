@@ -25,7 +25,7 @@ fn settled(t: u64, q: u64, u: u64) -> u64
 }
 
 // A first t, less than 2 ^ 21 below the root, from the chord of half of a's range: 94906265 is the root of 2 ^ 53.
-fn first(a: u64) -> u64
+fn first_guess(a: u64) -> u64
     requires { ⌜ (2 ^ 52 ≤ a) × (a < 2 ^ 54) ⌝ }
     ensures { λ r. ⌜ Within a r (2 ^ 21) × (2 ^ 26 ≤ r) ⌝ }
 {
@@ -40,7 +40,7 @@ fn whole_root(a: u64) -> u64
     requires { ⌜ (2 ^ 52 ≤ a) × (a < 2 ^ 54) ⌝ }
     ensures { λ r. ⌜ Within a r 1 × (2 ^ 26 ≤ r) × (r < 2 ^ 27) ⌝ }
 {
-    let t = nearer(a, first(a), 2097152);
+    let t = nearer(a, first_guess(a), 2097152);
     let d = a - t * t;
     settled(t, d / (2 * t), d % (2 * t))
 }

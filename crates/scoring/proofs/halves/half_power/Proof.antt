@@ -1,7 +1,8 @@
--- `halves::half_power` meets its contract: the code's table is `table`, entry by entry, and that holds the powers of one half.
+-- `halves::half_power` meets its contract: the code's table is `halfPowers`, entry by entry, and that holds the powers of one half.
 use lib.Ieee.{ofBits}
 use borrow.Author.Needs.{needs}
-use Rattle.scoring.proofs.Halving.{table, table-halves, entry}
+use Rattle.scoring.specs.Halves.{halfPowers}
+use Rattle.scoring.proofs.Halving.{table-halves, entry}
 use Rattle.scoring.proofs.halves.half_power.Statement.{statement}
 use Rattle.scoring.proofs.halves.half_power.Tie as tie
 
@@ -12,7 +13,7 @@ array-read-result : tie.Need-array-read-result
 array-read-result c = search needs
 
 returns : tie.Need-returns
-unfolding ofBits table
+unfolding ofBits halfPowers
 returns c = entry table-halves (c .args .k) (search needs)
 
 pub half-power-spec : {M : Type 1} → statement M

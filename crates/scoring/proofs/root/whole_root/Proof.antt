@@ -7,11 +7,11 @@ use Rattle.scoring.proofs.Squares.{root-below, root-least, ended, step-
 use Rattle.scoring.proofs.root.whole_root.Statement.{statement}
 use Rattle.scoring.proofs.root.whole_root.Tie as tie
 
-first-requires : tie.Need-first-requires
-first-requires c κs = search needs
+first-guess-requires : tie.Need-first-guess-requires
+first-guess-requires c κs = search needs
 
 nearer-requires : tie.Need-nearer-requires
-nearer-requires c κs = let f = c .first .ensures in omega (arith, f, root-below (c .before .args .a) (c .first .result) (2 ^ 27) (f .0 .0) (omega arith))
+nearer-requires c κs = let f = c .first-guess .ensures in omega (arith, f, root-below (c .before .args .a) (c .first-guess .result) (2 ^ 27) (f .0 .0) (omega arith))
 
 -- what the chord leaves
 left : (c : tie.After-nearer) → Within (c .before .before .args .a) (c .nearer .result) (2 ^ 13)
@@ -52,7 +52,7 @@ pub whole-root-spec : {M : Type 1} → statement M
 whole-root-spec =
     tie.close
     (tie.spec
-    first-requires
+    first-guess-requires
     nearer-requires
     mul-d
     sub-d
