@@ -14,7 +14,7 @@ use Rattle.counting.specs.Block.{bitAt, blockBit, validSize}
 use Rattle.counting.specs.Recording.{blockBytes, stride, capacityBytes, pieceRefusal, heldAfter, heldFrom, refusalsFrom, recording, recordedBit}
 use Rattle.counting.specs.Words.{putBytes, storedBit, arrivingBit}
 use Rattle.counting.specs.Sampling.{startedOf, startedWords, samplerRefusal, feedRefusal, fedOf, fedWords, FeedFills}
-use Rattle.counting.specs.Recorded.{State, started, fed, fedAll, answersFrom, Holds, AllRecorded}
+use Rattle.counting.specs.Recorded.{State, started, fed, fedAll, answersFrom, HoldsRecording, AllRecorded}
 use Rattle.counting.specs.declared.sampling.Sampler.{Sampler}
 use Rattle.counting.proofs.Lanes.{bit-zero}
 use Rattle.counting.proofs.Filling.{length-putBytes, stored-after, past-after}
@@ -200,7 +200,7 @@ module _ (B n : ℕ) (ok : validSize B ≡ true) where
       (λ i. answer-is st held p T i ∷ rest .0 i, rest .1)
 
   -- of the whole blocks, what is stored is the recording's
-  told-holds : (st : State) (held : List ℕ) → Told B n st held → Holds B n st held
+  told-holds : (st : State) (held : List ℕ) → Told B n st held → HoldsRecording B n st held
   unfolding recordedBit blockBit heldBit
   told-holds st held T = record {
     sampler = T .sampler;

@@ -36,7 +36,7 @@ answersFrom st [] = []
 answersFrom st (p ∷ ps) = fedOf (st .sampler) (length (st .words)) (length p) .refusal ∷ answersFrom (fed st p) ps
 
 -- The state is that of a recording that holds `held`.
-pub record Holds (B words : ℕ) (st : State) (held : List ℕ) : Type 0 where
+pub record HoldsRecording (B words : ℕ) (st : State) (held : List ℕ) : Type 0 where
   pub sampler : st .sampler ≡ record { «block_size» = B; words = words; taken = length held }
   pub lent : length (st .words) ≡ words
   pub within : length held ≤ capacityBytes B words
@@ -46,7 +46,7 @@ pub record Holds (B words : ℕ) (st : State) (held : List ℕ) : Type 0 where
 -- of bytes held, and for every e below the recording's n and b < B the stored bit is the recording's.
 pub record Recorded (B : ℕ) (ws : List ℕ) (pieces : List (List ℕ)) : Type 0 where
   pub answers : answersFrom (started B ws) pieces ≡ refusalsFrom B (length ws) [] pieces
-  pub holds : Holds B (length ws) (fedAll (started B ws) pieces) (recording B (length ws) pieces)
+  pub holds : HoldsRecording B (length ws) (fedAll (started B ws) pieces) (recording B (length ws) pieces)
 
 abbrev pub AllRecorded : Type 0
 AllRecorded = (B : ℕ) (ws : List ℕ) → validSize B ≡ true → (pieces : List (List ℕ)) → Recorded B ws pieces

@@ -19,7 +19,7 @@ use Rattle.scoring.specs.Halves.{part}
 use Rattle.scoring.specs.Score.{zScore, abs}
 use Rattle.ranking.specs.Order.{orderOf}
 use Rattle.ranking.specs.Ranking.{inBinOrder, sizeAt}
-use Rattle.ranking.proofs.Dividing.{score-low, score-high, score-is-ranking}
+use Rattle.ranking.proofs.Dividing.{score-low, score-high, ranking-is-right}
 use Rattle.ranking.proofs.Sorting.{order-permutes}
 use Rattle.ranking.proofs.Totals.{order-length}
 use Rattle.subsets.specs.Bits.{validWidth}
@@ -34,7 +34,7 @@ use Rattle.searching.specs.declared.finding.Searched.{Searched}
 use Rattle.searching.specs.declared.finding.Finding.{Finding}
 use Rattle.judging.specs.Permutation.{eachOnce, Permutation}
 use Rattle.judging.specs.Check.{chosen, limitRefusal, lengthRefusal, shapeRefusal, scratchRefusal, divisionRefusal, orderRefusal}
-use Rattle.judging.specs.Evaluation.{countsIn, positiveOf, positiveIn, zIn, blocksRefusal, earlyRefusal, evaluationRefusal}
+use Rattle.judging.specs.Evaluation.{countsIn, positiveOf, positiveIn, zIn, blocksRefusal, earlyEvaluationRefusal, evaluationRefusal}
 use Rattle.judging.specs.Agreement.{FindingsAgree, AllAgree}
 use Rattle.judging.proofs.Once.{once-permutes}
 
@@ -81,7 +81,7 @@ module _ (B : ℕ) (held : List ℕ) (k : ℕ) (f : Finding) (bins order : List 
       rw (best .width, once, le-leb 1 (f .division) low, lt-ltb (f .division) (2 ^ k) high) refl
 
   none : evaluationRefusal f order′ held scratch ≡ 0
-  unfolding evaluationRefusal earlyRefusal blocksRefusal scratchRefusal
+  unfolding evaluationRefusal earlyEvaluationRefusal blocksRefusal scratchRefusal
   none = rw (shape-none, order-none, best .block, best .width, le-leb (blocksIn B held) 16777216 M, le-leb (2 ^ k) scratch S) refl
 
   -- ---- the sum and the score
@@ -94,7 +94,7 @@ module _ (B : ℕ) (held : List ℕ) (k : ℕ) (f : Finding) (bins order : List 
   unfolding sizeAt
   scored N =
       let n = blocksIn B held in
-      let r = score-is-ranking n k counts N M K L in
+      let r = ranking-is-right n k counts N M K L in
       ap (λ (m : ℕ). abs (zScore (blocksIn m held) (positiveIn f order′ held) (part (f .division) (f .width)))) (best .block)
       ∙ ap (λ (w : ℕ). abs (zScore n (positiveIn f order′ held) (part (f .division) w))) (best .width)
       ∙ ap (λ (c : ℕ). abs (zScore n c (part (f .division) k))) summed

@@ -19,7 +19,7 @@ use Rattle.searching.proofs.Refusing.{neither, passed}
 use Rattle.subsets.proofs.Listing.{bits-below}
 use Rattle.searching.specs.declared.finding.Finding.{Finding}
 use Rattle.judging.specs.Check.{chosen, shapeRefusal, cleared}
-use Rattle.judging.specs.Evaluation.{blocksOf, positiveOf, positiveIn, zIn, scoreFor, scoreNumber, blocksRefusal, earlyRefusal, evaluationRefusal, answerWith, evaluatedOf, numberWith, evaluatedNumber, scratchAfter, Countable}
+use Rattle.judging.specs.Evaluation.{testingBlocks, positiveOf, positiveIn, zIn, scoreFor, scoreNumber, blocksRefusal, earlyEvaluationRefusal, evaluationRefusal, answerWith, evaluatedOf, numberWith, evaluatedNumber, scratchAfter, Countable}
 use Rattle.judging.specs.declared.evaluation.Evaluated.{Evaluated}
 use Rattle.judging.specs.declared.evaluation.Score.the-variants.{NoSample}
 use Rattle.judging.proofs.Tallying.{counts-none}
@@ -37,15 +37,15 @@ pub record Early (f : Finding) (order n scratch : ℕ) : Type 0 where
   pub blocks : n ≤ 16777216
   pub space : 2 ^ f .width ≤ scratch
 
-pub early : (f : Finding) (order n scratch : ℕ) → earlyRefusal f order n scratch ≡ 0 → Early f order n scratch
-unfolding earlyRefusal blocksRefusal
+pub early : (f : Finding) (order n scratch : ℕ) → earlyEvaluationRefusal f order n scratch ≡ 0 → Early f order n scratch
+unfolding earlyEvaluationRefusal blocksRefusal
 early f order n scratch e =
     let p = neither (shapeRefusal f order) _ e in
     let q = neither (blocksRefusal n) _ (p .1) in
     let r = passed (leb n 16777216) 0 12 (omega arith) (q .0) in
     record { shape = shaped f order (p .0); blocks = leb-true n 16777216 (r .0); space = room (f .width) scratch (q .1) }
 
-pub countable : (f : Finding) (order scratch : ℕ) (bytes : List ℕ) → Early f order (blocksOf f bytes) scratch → length (f .bits) ≡ 20 → Countable (f .«block_size») (chosen f) bytes
+pub countable : (f : Finding) (order scratch : ℕ) (bytes : List ℕ) → Early f order (testingBlocks f bytes) scratch → length (f .bits) ≡ 20 → Countable (f .«block_size») (chosen f) bytes
 countable f order scratch bytes e size =
     let s = e .shape in
     let w = chosen-length f (s .limits .width) size in
@@ -79,7 +79,7 @@ zero-at (suc m) zero = refl
 zero-at (suc m) (suc v) = zero-at m v
 
 -- z of no blocks is NaN
-no-blocks : (f : Finding) (order bytes : List ℕ) → blocksOf f bytes ≡ 0 → zIn f order bytes ≡ nan
+no-blocks : (f : Finding) (order bytes : List ℕ) → testingBlocks f bytes ≡ 0 → zIn f order bytes ≡ nan
 unfolding positiveOf
 no-blocks f order bytes e =
     let bit = recordedBit (f .«block_size») bytes in
@@ -99,7 +99,7 @@ pub answer-number : (f : Finding) (order bytes : List ℕ) (scratch : ℕ) (r : 
 unfolding evaluatedOf evaluatedNumber
 answer-number f order bytes scratch r is =
     ap (λ (a : Evaluated). scoreNumber (a .score)) is
-    ∙ number-of (evaluationRefusal f order bytes scratch) (blocksOf f bytes) (positiveIn f order bytes) (zIn f order bytes) (no-blocks f order bytes)
+    ∙ number-of (evaluationRefusal f order bytes scratch) (testingBlocks f bytes) (positiveIn f order bytes) (zIn f order bytes) (no-blocks f order bytes)
 
 -- ---- the scratch
 

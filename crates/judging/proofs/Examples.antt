@@ -16,15 +16,15 @@ use Rattle.searching.specs.Finding.{winnerOf}
 use Rattle.judging.specs.Permutation.{among, eachOnce}
 use Rattle.judging.specs.Check.{limitRefusal, lengthRefusal, shapeRefusal, scratchRefusal, divisionRefusal, orderRefusal, checkRefusal}
 use Rattle.judging.specs.Check as Check
-use Rattle.judging.specs.Evaluation.{positiveOf, blocksRefusal, earlyRefusal, evaluationRefusal, evaluatedOf}
+use Rattle.judging.specs.Evaluation.{positiveOf, blocksRefusal, earlyEvaluationRefusal, evaluationRefusal, evaluatedOf}
 use Rattle.searching.proofs.Examples.{examples}
 use Rattle.judging.specs.Examples.{EvaluationExample, AllExamples}
 use Rattle.judging.proofs.Sweeping.{plans-at-thousand}
 use Rattle.judging.proofs.Splitting.{blocks-of-sixteen}
 
 pub evaluation-example : EvaluationExample
-unfolding winnerOf recordedBit blockBit binOf countIn listOf countsOf total part root rootAt isqrt isqrtFrom deviation zOver zScore abs before insertBin sortBins orderOf peak inBinOrder sizeAt scoreOf lt mul sub div ofInt round add neg validSize validWidth increasing within bitsRefusal among eachOnce limitRefusal lengthRefusal shapeRefusal scratchRefusal divisionRefusal orderRefusal checkRefusal Check.earlyRefusal positiveOf blocksRefusal earlyRefusal evaluationRefusal evaluatedOf
+unfolding winnerOf recordedBit blockBit binOf countIn listOf countsOf total part root rootAt isqrt isqrtFrom deviation zOver zScore abs before insertBin sortBins orderOf peak inBinOrder sizeAt scoreOf lt mul sub div ofInt round add neg validSize validWidth increasing within bitsRefusal among eachOnce limitRefusal lengthRefusal shapeRefusal scratchRefusal divisionRefusal orderRefusal checkRefusal Check.earlyEvaluationRefusal positiveOf blocksRefusal earlyEvaluationRefusal evaluationRefusal evaluatedOf
 evaluation-example = record { sound = refl; counts = refl; answer = refl }
 
 pub all-examples : AllExamples
-all-examples = record { searched = examples; evaluated = evaluation-example; parted = blocks-of-sixteen; planned = plans-at-thousand }
+all-examples = record { searches = examples; evaluated = evaluation-example; parted = blocks-of-sixteen; planned = plans-at-thousand }

@@ -39,12 +39,12 @@ unfoldable pub orderRefusal : ℕ → ℕ → List ℕ → ℕ
 orderRefusal k division order = cond (eachOnce (2 ^ k) order) (divisionRefusal division (2 ^ k)) 13
 
 -- those before the scratch is used: 1, 2, 9, 10, 11, 7
-unfoldable pub earlyRefusal : Finding → ℕ → ℕ → ℕ
-earlyRefusal f order scratch = orElse (shapeRefusal f order) (scratchRefusal (f .width) scratch)
+unfoldable pub earlyCheckRefusal : Finding → ℕ → ℕ → ℕ
+earlyCheckRefusal f order scratch = orElse (shapeRefusal f order) (scratchRefusal (f .width) scratch)
 
 -- the check: 1, 2, 9, 10, 11, 7, 13, 14
 unfoldable pub checkRefusal : Finding → List ℕ → ℕ → ℕ
-checkRefusal f order scratch = orElse (earlyRefusal f (length order) scratch) (orderRefusal (f .width) (f .division) order)
+checkRefusal f order scratch = orElse (earlyCheckRefusal f (length order) scratch) (orderRefusal (f .width) (f .division) order)
 
 -- zeros in the first 2 ^ k entries, and the others as lent
 abbrev pub cleared : ℕ → List ℕ → List ℕ
@@ -57,4 +57,4 @@ clearedAfter (suc r) k scratch = scratch
 
 -- the scratch after a check, refused with 13 or 14 or not at all, or else as lent
 unfoldable pub checkedScratch : Finding → ℕ → List ℕ → List ℕ
-checkedScratch f order scratch = clearedAfter (earlyRefusal f order (length scratch)) (f .width) scratch
+checkedScratch f order scratch = clearedAfter (earlyCheckRefusal f order (length scratch)) (f .width) scratch

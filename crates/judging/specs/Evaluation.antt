@@ -19,12 +19,12 @@ use Rattle.judging.specs.declared.evaluation.Score.{Score}
 use Rattle.judging.specs.declared.evaluation.Score.the-variants.{Z, NoSample}
 
 -- the whole blocks of the data; what is left after the last counts nowhere
-abbrev pub blocksOf : Finding → List ℕ → ℕ
-blocksOf f bytes = blocksIn (f .«block_size») bytes
+abbrev pub testingBlocks : Finding → List ℕ → ℕ
+testingBlocks f bytes = blocksIn (f .«block_size») bytes
 
 -- the counts of the finding's bins over these blocks
 abbrev pub countsIn : Finding → List ℕ → List ℕ
-countsIn f bytes = countsOf (recordedBit (f .«block_size») bytes) (blocksOf f bytes) (chosen f)
+countsIn f bytes = countsOf (recordedBit (f .«block_size») bytes) (testingBlocks f bytes) (chosen f)
 
 -- the sum of the counts of the first `division` bins of the order
 unfoldable pub positiveOf : List ℕ → List ℕ → ℕ → ℕ
@@ -36,7 +36,7 @@ positiveIn f order bytes = positiveOf (countsIn f bytes) order (f .division)
 
 -- z of the positive blocks at the share of division bins, with its sign
 abbrev pub zIn : Finding → List ℕ → List ℕ → Float
-zIn f order bytes = zScore (blocksOf f bytes) (positiveIn f order bytes) (part (f .division) (f .width))
+zIn f order bytes = zScore (testingBlocks f bytes) (positiveIn f order bytes) (part (f .division) (f .width))
 
 -- the score of n blocks: z, or "no sample" where there is none
 abbrev pub scoreFor : ℕ → Float → Score
@@ -53,13 +53,13 @@ unfoldable pub blocksRefusal : ℕ → ℕ
 blocksRefusal n = cond (leb n 16777216) 0 12
 
 -- those before the scratch is used: 1, 2, 9, 10, 11, 12, 7
-unfoldable pub earlyRefusal : Finding → ℕ → ℕ → ℕ → ℕ
-earlyRefusal f order n scratch = orElse (shapeRefusal f order) (orElse (blocksRefusal n) (scratchRefusal (f .width) scratch))
+unfoldable pub earlyEvaluationRefusal : Finding → ℕ → ℕ → ℕ → ℕ
+earlyEvaluationRefusal f order n scratch = orElse (shapeRefusal f order) (orElse (blocksRefusal n) (scratchRefusal (f .width) scratch))
 
 -- the evaluation: 1, 2, 9, 10, 11, 12, 7, 13, 14
 unfoldable pub evaluationRefusal : Finding → List ℕ → List ℕ → ℕ → ℕ
 evaluationRefusal f order bytes scratch =
-    orElse (earlyRefusal f (length order) (blocksOf f bytes) scratch) (orderRefusal (f .width) (f .division) order)
+    orElse (earlyEvaluationRefusal f (length order) (testingBlocks f bytes) scratch) (orderRefusal (f .width) (f .division) order)
 
 -- the answer with the refusal r: beside one, no block is positive and there is no sample
 abbrev pub answerWith : ℕ → ℕ → ℕ → Float → Evaluated
@@ -68,7 +68,7 @@ answerWith (suc r) n positive z = record { refusal = suc r; positive = 0; score 
 
 -- what an evaluation answers
 unfoldable pub evaluatedOf : Finding → List ℕ → List ℕ → ℕ → Evaluated
-evaluatedOf f order bytes scratch = answerWith (evaluationRefusal f order bytes scratch) (blocksOf f bytes) (positiveIn f order bytes) (zIn f order bytes)
+evaluatedOf f order bytes scratch = answerWith (evaluationRefusal f order bytes scratch) (testingBlocks f bytes) (positiveIn f order bytes) (zIn f order bytes)
 
 -- the number beside the refusal r: z, or NaN where nothing was evaluated
 abbrev pub numberWith : ℕ → Float → Float
@@ -88,7 +88,7 @@ scratchAfter (suc e) r counts k scratch = scratch
 -- the scratch after an evaluation
 unfoldable pub evaluatedScratch : Finding → List ℕ → List ℕ → List ℕ → List ℕ
 evaluatedScratch f order bytes scratch =
-    scratchAfter (earlyRefusal f (length order) (blocksOf f bytes) (length scratch)) (orderRefusal (f .width) (f .division) order) (countsIn f bytes) (f .width) scratch
+    scratchAfter (earlyEvaluationRefusal f (length order) (testingBlocks f bytes) (length scratch)) (orderRefusal (f .width) (f .division) order) (countsIn f bytes) (f .width) scratch
 
 -- bits and data whose blocks can be counted
 pub record Countable (B : ℕ) (bits bytes : List ℕ) : Type 0 where

@@ -13,12 +13,13 @@ use Rattle.judging.specs.Plan.{PlansAtThousand}
 use Rattle.judging.specs.Split.{BlocksOfSixteen}
 use Rattle.judging.specs.declared.evaluation.Score.the-variants.{Z}
 
-abbrev pub searched : List ℕ
-searched = 0 ∷ 0 ∷ 0xff ∷ 0xff ∷ []
+-- the bytes that are searched
+abbrev pub searchedBytes : List ℕ
+searchedBytes = 0 ∷ 0 ∷ 0xff ∷ 0xff ∷ []
 
 -- what a search of width 2 finds in 00 00 FF FF
 abbrev pub together : Finding
-together = findingOf (recordedBit 8 searched) (blocksIn 8 searched) 8 (winnerOf (recordedBit 8 searched) (blocksIn 8 searched) 8 2)
+together = findingOf (recordedBit 8 searchedBytes) (blocksIn 8 searchedBytes) 8 (winnerOf (recordedBit 8 searchedBytes) (blocksIn 8 searchedBytes) 8 2)
 
 -- its bin order there
 abbrev pub itsOrder : List ℕ
@@ -37,7 +38,7 @@ pub record EvaluationExample : Type 0 where
 -- Theorem: all worked examples. The first, second, third, fourth, sixth and eighth of the rules are those of the search, the fifth is the evaluation, the
 -- seventh the split and the ninth the plan.
 pub record AllExamples : Type 0 where
-  pub searched : Examples
+  pub searches : Examples
   pub evaluated : EvaluationExample
   pub parted : BlocksOfSixteen
   pub planned : PlansAtThousand

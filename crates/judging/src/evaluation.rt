@@ -8,7 +8,7 @@ ghost use Rattle.scoring.specs.Halves.{part};
 ghost use Rattle.scoring.specs.Score.{zScore};
 ghost use Rattle.judging.specs.Check.{chosen};
 ghost use Rattle.judging.specs.Permutation.{Permutation};
-ghost use Rattle.judging.specs.Evaluation.{positiveOf, scoreFor, earlyRefusal, evaluatedOf, scoreNumber, evaluatedNumber, evaluatedScratch, countsIn, positiveIn, Countable};
+ghost use Rattle.judging.specs.Evaluation.{positiveOf, scoreFor, earlyEvaluationRefusal, evaluatedOf, scoreNumber, evaluatedNumber, evaluatedScratch, countsIn, positiveIn, Countable};
 use crate::check::order_refusal;
 use crate::check::scratch_refusal;
 use crate::check::shape_refusal;
@@ -42,7 +42,7 @@ pub fn evaluate_histogram(
     ensures { λ r. ⌜ scoreNumber (r .score) ≡ evaluatedNumber finding (now (order .entry)) (now (bytes .entry)) (length (now (scratch .entry))) ⌝ }
     ensures { λ _. ⌜ now (scratch .exit) ≡ evaluatedScratch finding (now (order .entry)) (now (bytes .entry)) (now (scratch .entry)) ⌝ }
 {
-    let early = early_refusal(finding, order.len(), bytes.len(), scratch.len());
+    let early = early_evaluation_refusal(finding, order.len(), bytes.len(), scratch.len());
     if early != 0 {
         return refused(early);
     }
@@ -74,8 +74,8 @@ fn refused(refusal: u32) -> Evaluated
 }
 
 // 1, 2, 9, 10, 11, 12, 7, or 0 where the scratch may be used.
-fn early_refusal(finding: Finding, order: usize, bytes: usize, scratch: usize) -> u32
-    ensures { λ r. ⌜ r ≡ earlyRefusal finding order (bytes / (finding .«block_size» / 8)) scratch ⌝ }
+fn early_evaluation_refusal(finding: Finding, order: usize, bytes: usize, scratch: usize) -> u32
+    ensures { λ r. ⌜ r ≡ earlyEvaluationRefusal finding order (bytes / (finding .«block_size» / 8)) scratch ⌝ }
 {
     let refusal = shape_refusal(finding, order);
     if refusal != 0 {

@@ -1,6 +1,6 @@
 // Judging: whether a finding is sound and how it does on other data, the parts of a recording, and the plan of a sweep.
 pub mod check;
 pub mod evaluation;
-pub mod permutation;
+mod permutation;
 pub mod plan;
 pub mod split;

@@ -12,13 +12,13 @@ use Rattle.counting.specs.Block.{binOf}
 use Rattle.counting.specs.Sample.{countIn, countsOf}
 use Rattle.counting.specs.Rows.{RowsIn}
 use Rattle.counting.proofs.Counts.{length-list, getD-list}
-use Rattle.subsets.specs.Subsets.{Subset, run, padded, Next, Last}
+use Rattle.subsets.specs.Subsets.{Subset, numbersFrom, padded, Next, Last}
 use Rattle.subsets.specs.Choose.{choose}
 use Rattle.subsets.specs.Rank.{rankOf}
 use Rattle.subsets.proofs.Listing.{bits-below}
 use Rattle.subsets.proofs.Lex.{lex-total}
 use Rattle.subsets.proofs.Ranking.{ranks}
-use Rattle.subsets.proofs.Visiting.{length-run, run-subset}
+use Rattle.subsets.proofs.Visiting.{length-numbers, numbers-subset}
 use Rattle.subsets.proofs.Filling.{padded-front}
 use Rattle.layers.specs.Layers.{Layer, layerSize, EmptyLayer}
 
@@ -57,12 +57,12 @@ past-larger L W store store₀ h e =
 
 -- ---- the first subset
 
-pub begins : (bit : ℕ → ℕ → ℕ) (n B d : ℕ) (store bits : List ℕ) → d ≤ B → bits ≡ padded (run 0 d) → Filled bit n B d store (take d bits) 0 store
+pub begins : (bit : ℕ → ℕ → ℕ) (n B d : ℕ) (store bits : List ℕ) → d ≤ B → bits ≡ padded (numbersFrom 0 d) → Filled bit n B d store (take d bits) 0 store
 begins bit n B d store bits h e =
-    let front : take d bits ≡ run 0 d = ap (take d) e ∙ padded-front d (run 0 d) (length-run 0 d) in
-    let none : rankOf B (run 0 d) ≡ 0 = ranks B d .first h in
+    let front : take d bits ≡ numbersFrom 0 d = ap (take d) e ∙ padded-front d (numbersFrom 0 d) (length-numbers 0 d) in
+    let none : rankOf B (numbersFrom 0 d) ≡ 0 = ranks B d .first h in
     rw front (record {
-      current = run-subset B d h;
+      current = numbers-subset B d h;
       place = rw none (omega arith);
       size = refl;
       before = λ s g l u m. absurd (omega arith);

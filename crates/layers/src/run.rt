@@ -51,7 +51,7 @@ fn ranks_without(bits: &[u32], block_size: usize, ranks: &mut [usize])
     }
 }
 
-// The run of the bits, from them on.
+// The run of the bits, from them on. Entries of counts and ranks of which the run does not speak are free.
 pub fn begin_run(
     bits: &[u32],
     words: &[u64],
@@ -94,6 +94,7 @@ fn raise(ranks: &mut [usize], m: usize)
 }
 
 // Steps to the next k-subset, and its run with it; false where the bits are the last. Within a run the counts stand.
+// Entries of counts and ranks of which the run does not speak are free, and all are where there is no next.
 pub fn advance(
     bits: &mut [u32],
     k: usize,

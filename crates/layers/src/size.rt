@@ -1,17 +1,17 @@
 // W, the entries that each of the two stores must have: compared exactly up to 2^32.
-use subsets::choose::choose;
+use subsets::choose::choose_up_to;
 ghost use mathlib.Core.Path.{_≡_};
 ghost use Prim.Native.Nat.{_≤_, _<_};
 ghost use Rattle.layers.specs.Layers.{layerSize};
 ghost use Rattle.subsets.specs.Choose.{upTo};
 ghost use Rattle.layers.specs.Size.{storeSize, storeRefusal};
 
-// The entries of layer d where they are at most 2^32, and else 2^32 + 1. The product fits, since `choose` stops at 2^32 + 1 too.
+// The entries of layer d where they are at most 2^32, and else 2^32 + 1. The product fits, since `choose_up_to` stops at 2^32 + 1 too.
 fn layer_size(block_size: usize, d: usize) -> usize
     requires { ⌜ («block_size» < 4294967296) × (d ≤ 20) ⌝ }
     ensures { λ r. ⌜ r ≡ upTo (layerSize «block_size» d) ⌝ }
 {
-    let size = choose(block_size, d) * (1 << d as u32);
+    let size = choose_up_to(block_size, d) * (1 << d as u32);
     if size > 4294967296 { 4294967297 } else { size }
 }
 

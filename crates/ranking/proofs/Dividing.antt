@@ -20,7 +20,7 @@ use Rattle.scoring.proofs.Defined.{size-is-number, empty-is-nan}
 use Rattle.scoring.proofs.Less.{right-number, asym, co, equal}
 use Rattle.ranking.specs.Peak.{Peak, peak}
 use Rattle.counting.specs.Sample.{total}
-use Rattle.ranking.specs.Ranking.{inBinOrder, sizeAt, zeroScore, asRanking, scoreOf, IsRanking}
+use Rattle.ranking.specs.Ranking.{inBinOrder, sizeAt, zeroScore, asRanking, scoreOf, IsRanking, RankingIsRight, RankingIsAlone, EmptyRanking}
 use Rattle.ranking.specs.declared.ranking.Ranking.{Ranking}
 use Rattle.ranking.proofs.Totals.{sum-most}
 use Rattle.ranking.proofs.Peaks.{peak-low, peak-high, peak-attained, peak-start, peak-has, peak-greatest, peak-first}
@@ -34,7 +34,7 @@ size-fits : (n k : ℕ) (l : List ℕ) (i : ℕ) → T (fits binary64 (sizeAt n 
 unfolding sizeAt zScore zOver
 size-fits n k l i = abs-fits (zScore n (total (take i l)) (part i k)) (div-fits binary64 _ _)
 
-size-number : (n k : ℕ) (l : List ℕ) (i : ℕ) → 1 ≤ n → n ≤ 2 ^ 24 → k ≤ 20 → 1 ≤ i → i < 2 ^ k → Number (sizeAt n k l i)
+size-number : (n k : ℕ) (l : List ℕ) (i : ℕ) → 1 ≤ n → n ≤ 16777216 → k ≤ 20 → 1 ≤ i → i < 2 ^ k → Number (sizeAt n k l i)
 unfolding sizeAt
 size-number n k l i N M K I H = size-is-number i k n I H K N M (total (take i l))
 
@@ -95,9 +95,9 @@ module _ (n k : ℕ) (counts : List ℕ) where
   score-unsigned = peak-has lt zeroScore (sizeAt n k (inBinOrder counts)) (λ x. abs x ≡ x) zero-unsigned (λ a j t. size-unsigned n k (inBinOrder counts) j) (2 ^ k - 1)
 
 -- ---- an empty sample: division 1, z 0
-pub score-empty : (k : ℕ) (counts : List ℕ) → total counts ≡ 0 → scoreOf 0 k counts ≡ record { division = 1; z = zeroScore }
+pub empty-ranking : EmptyRanking
 unfolding scoreOf sizeAt
-score-empty k counts h = ap asRanking (peak-start lt zeroScore (sizeAt 0 k (inBinOrder counts)) (2 ^ k - 1) (λ j. subst (λ (x : Float). T (not (lt zeroScore x))) (sym (size j)) (not-less-nan zeroScore)))
+empty-ranking k counts h = ap asRanking (peak-start lt zeroScore (sizeAt 0 k (inBinOrder counts)) (2 ^ k - 1) (λ j. subst (λ (x : Float). T (not (lt zeroScore x))) (sym (size j)) (not-less-nan zeroScore)))
   where
     none : (j : ℕ) → total (take j (inBinOrder counts)) ≡ 0
     none j = omega (arith, sum-most counts j)
@@ -106,7 +106,7 @@ score-empty k counts h = ap asRanking (peak-start lt zeroScore (sizeAt 0 k (inBi
     size j = ap (λ (c : ℕ). abs (zScore 0 c (part j k))) (none j) ∙ ap abs (empty-is-nan (part j k)) ∙ abs-nan
 
 -- ---- any other
-module _ (n k : ℕ) (counts : List ℕ) (N : 1 ≤ n) (M : n ≤ 2 ^ 24) (K : 1 ≤ k) (L : k ≤ 20) where
+module _ (n k : ℕ) (counts : List ℕ) (N : 1 ≤ n) (M : n ≤ 16777216) (K : 1 ≤ k) (L : k ≤ 20) where
   some-bins : 2 ≤ 2 ^ k
   some-bins = pow-mono {i = 1} K
 
@@ -138,8 +138,8 @@ module _ (n k : ℕ) (counts : List ℕ) (N : 1 ≤ n) (M : n ≤ 2 ^ 24) (K : 1
       go (inl e) = e
       go (inr e) = ap (λ (p : Peak Float). p .value) e ∙ still (ap (λ (p : Peak Float). p .value) e) ∙ ap (λ (p : Peak Float). sizeAt n k (inBinOrder counts) (p .place)) (sym e)
 
-  pub score-is-ranking : IsRanking n k counts (scoreOf n k counts)
-  score-is-ranking = record {
+  is-ranking : IsRanking n k counts (scoreOf n k counts)
+  is-ranking = record {
     low = score-low n k counts;
     high = score-high n k counts K;
     attained = score-attained;
@@ -154,11 +154,11 @@ module _ (n k : ℕ) (counts : List ℕ) (N : 1 ≤ n) (M : n ≤ 2 ^ 24) (K : 1
       (subst (λ (x : Float). T (not (lt (r .z) x))) (sym (q .attained)) (p .greatest (s .division) (q .low) (q .high)))
       (subst (λ (x : Float). T (lt x (s .z))) (sym (p .attained)) (q .first (r .division) (p .low) h))
 
-  pub ranking-unique : (r : Ranking) → IsRanking n k counts r → r ≡ scoreOf n k counts
-  ranking-unique r p = go (decLt (r .division) (scoreOf n k counts .division)) (decLt (scoreOf n k counts .division) (r .division))
+  unique : (r : Ranking) → IsRanking n k counts r → r ≡ scoreOf n k counts
+  unique r p = go (decLt (r .division) (scoreOf n k counts .division)) (decLt (scoreOf n k counts .division) (r .division))
     where
       q : IsRanking n k counts (scoreOf n k counts)
-      q = score-is-ranking
+      q = is-ranking
 
       same : r .division ≡ scoreOf n k counts .division → r ≡ scoreOf n k counts
       same e =
@@ -169,3 +169,9 @@ module _ (n k : ℕ) (counts : List ℕ) (N : 1 ≤ n) (M : n ≤ 2 ^ 24) (K : 1
       go (yes h) d = absurd (not-earlier r (scoreOf n k counts) p q h)
       go (no g) (yes h) = absurd (not-earlier (scoreOf n k counts) r q p h)
       go (no g) (no h) = same (omega arith)
+
+pub ranking-is-right : RankingIsRight
+ranking-is-right = is-ranking
+
+pub ranking-is-alone : RankingIsAlone
+ranking-is-alone = unique

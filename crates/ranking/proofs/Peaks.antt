@@ -6,10 +6,10 @@ use native.Mathlib.Decide.{ℕ-discrete}
 use native.Mathlib.Omega.{arith}
 use mathlib.Core.Bool.{Bool, true, false, not}
 use lib.Dec.{T, T-not, not-T}
-use Rattle.ranking.specs.Peak.{Peak, step, peak}
+use Rattle.ranking.specs.Peak.{Peak, better, peak}
 
 -- what holds of the new one where it is taken, and else of the best so far, holds of the better
-stepped : {S : Type 0} (P : Peak S → Type 0) (v : Bool) (i : ℕ) (new : S) (best : Peak S) → (T v → P (record { place = i; value = new })) → (T (not v) → P best) → P (step v i new best)
+stepped : {S : Type 0} (P : Peak S → Type 0) (v : Bool) (i : ℕ) (new : S) (best : Peak S) → (T v → P (record { place = i; value = new })) → (T (not v) → P best) → P (better v i new best)
 stepped P true i new best f g = f tt
 stepped P false i new best f g = g tt
 

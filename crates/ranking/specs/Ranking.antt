@@ -1,4 +1,4 @@
--- Ranking one subset by its counts: the division of the bin order at which the score is greatest. Definitions only.
+-- Ranking one subset by its counts: the division of the bin order at which the score is greatest.
 use mathlib.Core.Path.{_≡_}
 use Prim.Native.Nat.{ℕ, _-_, _^_, _≤_, _<_}
 use mathlib.Core.Bool.{false, not}
@@ -48,3 +48,16 @@ pub record IsRanking (n k : ℕ) (counts : List ℕ) (r : Ranking) : Type 0 wher
   pub attained : r .z ≡ sizeAt n k (inBinOrder counts) (r .division)
   pub greatest : (i : ℕ) → 1 ≤ i → i < 2 ^ k → T (not (lt (r .z) (sizeAt n k (inBinOrder counts) i)))
   pub first : (i : ℕ) → 1 ≤ i → i < r .division → T (lt (sizeAt n k (inBinOrder counts) i) (r .z))
+
+-- Theorem: `scoreOf` is that for every n from 1 to 16,777,216 and every width.
+abbrev pub RankingIsRight : Type 0
+RankingIsRight = (n k : ℕ) (counts : List ℕ) → 1 ≤ n → n ≤ 16777216 → 1 ≤ k → k ≤ 20 → IsRanking n k counts (scoreOf n k counts)
+
+-- Theorem: and no other division and z are.
+abbrev pub RankingIsAlone : Type 0
+RankingIsAlone =
+    (n k : ℕ) (counts : List ℕ) → 1 ≤ n → n ≤ 16777216 → 1 ≤ k → k ≤ 20 → (r : Ranking) → IsRanking n k counts r → r ≡ scoreOf n k counts
+
+-- Theorem: an empty sample has division 1 and z 0.
+abbrev pub EmptyRanking : Type 0
+EmptyRanking = (k : ℕ) (counts : List ℕ) → total counts ≡ 0 → scoreOf 0 k counts ≡ record { division = 1; z = zeroScore }

@@ -7,7 +7,7 @@ ghost use lib.Ieee.{lt};
 ghost use Rattle.scoring.specs.Halves.{part};
 ghost use Rattle.scoring.specs.Score as Score;
 ghost use Rattle.ranking.specs.Order.{orderOf, BinsBelow};
-ghost use Rattle.ranking.specs.Peak.{step};
+ghost use Rattle.ranking.specs.Peak.{better};
 ghost use Rattle.counting.specs.Sample.{total};
 ghost use Rattle.ranking.specs.Ranking.{Roots, scoreOf, asRanking, asPeak};
 use crate::order::order_bins;
@@ -55,7 +55,7 @@ fn size_at(roots: &[f64], n: u32, c: u32, i: u32, k: usize) -> f64
 
 // The better of best and division i, of the size z: the earlier one unless z is strictly greater.
 fn better(best: Ranking, i: u32, z: f64) -> Ranking
-    ensures { λ r. ⌜ r ≡ asRanking (step (lt (best .z) z) i z (asPeak best)) ⌝ }
+    ensures { λ r. ⌜ r ≡ asRanking (better (lt (best .z) z) i z (asPeak best)) ⌝ }
 {
     if best.z < z {
         return Ranking { division: i, z };

@@ -7,7 +7,7 @@ use lib.Dec.{eqb}
 use lib.ListN.{length, drop}
 use borrow.Author.Tests.{eqb-true}
 use Rattle.counting.specs.Block.{validSize}
-use Rattle.counting.specs.Recorded.{State, started, fed, fedAll, answersFrom, Holds}
+use Rattle.counting.specs.Recorded.{State, started, fed, fedAll, answersFrom, HoldsRecording}
 use Rattle.counting.specs.Recording.{stride, capacityBytes, recording, blocksIn, recordedBit}
 use Rattle.counting.specs.Sample.{countsOf, AgreeBelow}
 use Rattle.counting.specs.Sampling.{startedOf, startedWords, fedOf, fedWords}
@@ -61,7 +61,7 @@ module _ (B : ℕ) (ws : List ℕ) (pieces : List (List ℕ)) (ok : validSize B 
   claim : Claim B ws pieces (answersFrom (started B ws) pieces) (stateAfter B ws pieces .sampler) (stateAfter B ws pieces .words)
   claim = claims B ws pieces _ _ _ session
 
-  holds : Holds B (length ws) (stateAfter B ws pieces) (recording B (length ws) pieces)
+  holds : HoldsRecording B (length ws) (stateAfter B ws pieces) (recording B (length ws) pieces)
   holds = all-recorded B ws ok pieces .holds
 
   -- a recorder's sampler is never refused
@@ -154,7 +154,7 @@ module _ (B : ℕ) (ws : List ℕ) (pieces : List (List ℕ)) (bytes : ℕ) (len
   abbrev sampler : Sampler
   sampler = record { «block_size» = B; words = length ws; taken = length held }
 
-  H : Holds B (length ws) st held
+  H : HoldsRecording B (length ws) st held
   H = holds B ws pieces (free .valid)
 
   C : Claim B ws pieces (answersFrom (started B ws) pieces) (st .sampler) (st .words)

@@ -13,7 +13,7 @@ use Rattle.counting.specs.Block.{validSize}
 use Rattle.counting.specs.Recording.{stride, capacityBytes, recording, blocksIn, recordedBit}
 use Rattle.counting.specs.Sample.{countsOf, AgreeBelow}
 use Rattle.counting.specs.Sampling.{startedOf, samplerRefusal, fedOf}
-use Rattle.counting.specs.Recorded.{State, started, fed, fedAll, answersFrom, Holds}
+use Rattle.counting.specs.Recorded.{State, started, fed, fedAll, answersFrom, HoldsRecording}
 use Rattle.counting.specs.Words.{storedBit}
 use Rattle.counting.specs.declared.sampling.Sampler.{Sampler}
 use Rattle.counting.specs.declared.sampling.Started.{Started}
@@ -241,8 +241,8 @@ claims B ws pieces answers s ws′ session =
     let S = stands session in
     let R = all-recorded B ws (S .valid) pieces in
     let held = recording B (length ws) pieces in
-    let H : Holds B (length ws) (record { sampler = s; words = ws′ }) held =
-    subst (λ (st : State). Holds B (length ws) st held) (sym (S .state)) (R .holds) in
+    let H : HoldsRecording B (length ws) (record { sampler = s; words = ws′ }) held =
+    subst (λ (st : State). HoldsRecording B (length ws) st held) (sym (S .state)) (R .holds) in
     let is = H .sampler in
     record {
       fed = S .said ∙ R .answers;

@@ -11,7 +11,7 @@ use Rattle.counting.specs.Sample.{countsOf}
 use Rattle.scoring.specs.Score.{Number}
 use Rattle.scoring.proofs.Less.{asym, co}
 use Rattle.ranking.proofs.Dividing.{score-number}
-use Rattle.subsets.specs.Subsets.{Subset, run, padded}
+use Rattle.subsets.specs.Subsets.{Subset, numbersFrom, padded}
 use Rattle.subsets.specs.Best.{Order, Optimal, Sofar, Searches}
 use Rattle.subsets.specs.Choose.{choose}
 use Rattle.subsets.specs.Rank.{rankOf}
@@ -19,7 +19,7 @@ use Rattle.subsets.specs.Stepping.{Stepped}
 use Rattle.subsets.proofs.Filling.{padded-front, padded-rest, padded-of, padded-length}
 use Rattle.subsets.proofs.Choosing.{choose-all}
 use Rattle.subsets.proofs.Ranking.{ranks, next-falls}
-use Rattle.subsets.proofs.Visiting.{searches, length-run, run-subset}
+use Rattle.subsets.proofs.Visiting.{searches, length-numbers, numbers-subset}
 use Rattle.searching.specs.Finding.{zOf, winnerOf}
 
 -- ---- the order of the scores
@@ -32,7 +32,7 @@ z-number bit n bits = score-number n (length bits) (countsOf bit n bits)
 
 -- what holds of a search by z
 pub by-z : (bit : ℕ → ℕ → ℕ) (n B k : ℕ) → Searches lt (zOf bit n) B k
-by-z bit n B k = searches lt Number scores (zOf bit n) B k (λ s X. z-number bit n s)
+by-z bit n B k = searches Float lt Number scores (zOf bit n) B k (λ s X. z-number bit n s)
 
 -- a float test, taken or not
 pub holds : (b : Bool) → b ≡ true → T b
@@ -54,14 +54,14 @@ pub record Walked (bit : ℕ → ℕ → ℕ) (n B k : ℕ) (bits best : List �
   pub scored : z ≡ zOf bit n (take k best)
 
 module _ (bit : ℕ → ℕ → ℕ) (n B k : ℕ) (chosen : k ≤ B) (width : k ≤ 20) where
-  pub first-front : (bits : List ℕ) → bits ≡ padded (run 0 k) → take k bits ≡ run 0 k
-  first-front bits e = ap (take k) e ∙ padded-front k (run 0 k) (length-run 0 k)
+  pub first-front : (bits : List ℕ) → bits ≡ padded (numbersFrom 0 k) → take k bits ≡ numbersFrom 0 k
+  first-front bits e = ap (take k) e ∙ padded-front k (numbersFrom 0 k) (length-numbers 0 k)
 
-  pub begun : (bits : List ℕ) (z : Float) → bits ≡ padded (run 0 k) → z ≡ zOf bit n (take k bits) → Walked bit n B k bits bits z
+  pub begun : (bits : List ℕ) (z : Float) → bits ≡ padded (numbersFrom 0 k) → z ≡ zOf bit n (take k bits) → Walked bit n B k bits bits z
   begun bits z e s = record {
     sofar = subst (λ (t : List ℕ). Sofar lt (zOf bit n) B k t t) (sym (first-front bits e)) (by-z bit n B k .begins chosen);
-    size = ap length e ∙ padded-length (run 0 k) (omega (arith, length-run 0 k));
-    rest = ap (drop k) e ∙ padded-rest k (run 0 k) (length-run 0 k);
+    size = ap length e ∙ padded-length (numbersFrom 0 k) (omega (arith, length-numbers 0 k));
+    rest = ap (drop k) e ∙ padded-rest k (numbersFrom 0 k) (length-numbers 0 k);
     kept = e ∙ ap padded (sym (first-front bits e));
     scored = s;
   }
@@ -104,14 +104,14 @@ unfolding winnerOf
 winner-optimal bit n B k chosen = by-z bit n B k .optimal chosen
 
 -- a block of k bits has one k-subset
-pub only-winner : (bit : ℕ → ℕ → ℕ) (n B k : ℕ) → k ≡ B → winnerOf bit n B k ≡ run 0 k
+pub only-winner : (bit : ℕ → ℕ → ℕ) (n B k : ℕ) → k ≡ B → winnerOf bit n B k ≡ numbersFrom 0 k
 only-winner bit n B k e =
     let won = winner-optimal bit n B k (omega arith) .subset in
     let first : k ≤ B = omega arith in
     let one : choose B k ≡ 1 = ap (choose B) e ∙ choose-all B in
-    ranks B k .same (winnerOf bit n B k) (run 0 k) won (run-subset B k first)
+    ranks B k .same (winnerOf bit n B k) (numbersFrom 0 k) won (numbers-subset B k first)
     (let low : rankOf B (winnerOf bit n B k) < choose B k = ranks B k .below (winnerOf bit n B k) won in
-    let zero : rankOf B (run 0 k) ≡ 0 = ranks B k .first first in
+    let zero : rankOf B (numbersFrom 0 k) ≡ 0 = ranks B k .first first in
     omega arith)
 
 pub winner-front : (bit : ℕ → ℕ → ℕ) (n B k : ℕ) (bits : List ℕ) → k ≤ B → bits ≡ padded (winnerOf bit n B k) → take k bits ≡ winnerOf bit n B k

@@ -22,8 +22,8 @@ pub record Searchable (words stride n B k : ℕ) : Type 0 where
   pub blocks : BlocksIn stride n
 
 -- both buffers have room for 2 ^ k entries
-abbrev pub Room : ℕ → List ℕ → List ℕ → Type 0
-Room k bins order = (2 ^ k ≤ length bins) × (2 ^ k ≤ length order)
+abbrev pub BufferRoom : ℕ → List ℕ → List ℕ → Type 0
+BufferRoom k bins order = (2 ^ k ≤ length bins) × (2 ^ k ≤ length order)
 
 -- the layer that a candidate's bins are worked out from: none, where every bin is counted, or layer k - 1
 pub record LayerBelow (bit : ℕ → ℕ → ℕ) (n B k : ℕ) (layer : List ℕ) : Type 0 where

@@ -9,7 +9,7 @@ ghost use Rattle.ranking.specs.Order.{orderOf};
 ghost use Rattle.ranking.specs.Ranking.{Roots};
 ghost use Rattle.subsets.specs.Subsets.{Subset};
 ghost use Rattle.searching.specs.Finding.{rankingOf};
-ghost use Rattle.searching.specs.Pass.{Searchable, Room, LayerBelow, Ready};
+ghost use Rattle.searching.specs.Pass.{Searchable, BufferRoom, LayerBelow, Ready};
 use counting::rows::multi_eval_neg;
 use layers::layers::compute_bins;
 use ranking::ranking::Ranking;
@@ -34,7 +34,7 @@ pub fn rank_candidate(
     requires { ⌜ Subset «block_size» (length (now bits)) (now bits) ⌝ }
     requires { ⌜ LayerBelow (storedBit stride (now words)) n «block_size» (length (now bits)) (now layer) ⌝ }
     requires { ⌜ Ready (storedBit stride (now words)) n «block_size» (now layer) (now bits) (now counts) (now ranks) ⌝ }
-    requires { ⌜ Room (length (now bits)) (now bins) (now order) ⌝ }
+    requires { ⌜ BufferRoom (length (now bits)) (now bins) (now order) ⌝ }
     requires { ⌜ Roots n (length (now bits)) (now roots) ⌝ }
     ensures { λ r. ⌜ r ≡ rankingOf (storedBit stride (now (words .entry))) n (now (bits .entry)) ⌝ }
     ensures { λ _. ⌜ now (bins .exit) ≡ countsOf (storedBit stride (now (words .entry))) n (now (bits .entry)) ++ drop (2 ^ length (now (bits .entry))) (now (bins .entry)) ⌝ }

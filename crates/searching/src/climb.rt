@@ -6,7 +6,7 @@ ghost use Rattle.counting.specs.Words.{storedBit};
 ghost use Rattle.layers.specs.Layers.{Holds};
 ghost use Rattle.layers.specs.Run.{RunRoom};
 ghost use Rattle.layers.specs.Size.{storeSize};
-ghost use Rattle.searching.specs.Pass.{Searchable, Room, Suffice, Won};
+ghost use Rattle.searching.specs.Pass.{Searchable, BufferRoom, Suffice, Won};
 use crate::finding::Finding;
 use crate::pass::find;
 use layers::layers::fill_layer;
@@ -25,7 +25,7 @@ pub fn find_layered(
 ) -> Finding
     requires { ⌜ Searchable (length (now words)) stride n «block_size» k ⌝ }
     requires { ⌜ Suffice «block_size» k (length (now first)) (length (now second)) ⌝ }
-    requires { ⌜ Room k (now bins) (now order) ⌝ }
+    requires { ⌜ BufferRoom k (now bins) (now order) ⌝ }
     ensures { λ r. ⌜ Won (storedBit stride (now (words .entry))) n «block_size» k (now (bins .entry)) (now (order .entry)) r (now (bins .exit)) (now (order .exit)) ⌝ }
     ensures { λ _. ⌜ (drop (storeSize «block_size» k) (now (first .exit)) ≡ drop (storeSize «block_size» k) (now (first .entry))) × (drop (storeSize «block_size» k) (now (second .exit)) ≡ drop (storeSize «block_size» k) (now (second .entry))) ⌝ }
 {
@@ -60,7 +60,7 @@ fn no_ranks() -> [usize; 20]
     [0; 20]
 }
 
-// The same with that room.
+// The same with that room. What is left in counts and ranks is free.
 fn find_in_run(
     counts: &mut [u32],
     ranks: &mut [usize],
@@ -77,7 +77,7 @@ fn find_in_run(
     requires { ⌜ RunRoom «block_size» k (now counts) (now ranks) ⌝ }
     requires { ⌜ Searchable (length (now words)) stride n «block_size» k ⌝ }
     requires { ⌜ Suffice «block_size» k (length (now first)) (length (now second)) ⌝ }
-    requires { ⌜ Room k (now bins) (now order) ⌝ }
+    requires { ⌜ BufferRoom k (now bins) (now order) ⌝ }
     ensures { λ r. ⌜ Won (storedBit stride (now (words .entry))) n «block_size» k (now (bins .entry)) (now (order .entry)) r (now (bins .exit)) (now (order .exit)) ⌝ }
     ensures { λ _. ⌜ (drop (storeSize «block_size» k) (now (first .exit)) ≡ drop (storeSize «block_size» k) (now (first .entry))) × (drop (storeSize «block_size» k) (now (second .exit)) ≡ drop (storeSize «block_size» k) (now (second .entry))) ⌝ }
 {
@@ -115,6 +115,7 @@ fn find_in_run(
 }
 
 // Layer d stands in the lower store: the next is made in the upper one and the two change places, until layer k - 1 stands.
+// The first W entries of each store, counts and ranks are free.
 fn climb(
     d: usize,
     counts: &mut [u32],
@@ -134,7 +135,7 @@ fn climb(
     requires { ⌜ Searchable (length (now words)) stride n «block_size» k ⌝ }
     requires { ⌜ Suffice «block_size» k (length (now lower)) (length (now upper)) ⌝ }
     requires { ⌜ Holds (storedBit stride (now words)) n «block_size» d (now lower) ⌝ }
-    requires { ⌜ Room k (now bins) (now order) ⌝ }
+    requires { ⌜ BufferRoom k (now bins) (now order) ⌝ }
     ensures { λ r. ⌜ Won (storedBit stride (now (words .entry))) n «block_size» k (now (bins .entry)) (now (order .entry)) r (now (bins .exit)) (now (order .exit)) ⌝ }
     ensures { λ _. ⌜ (drop (storeSize «block_size» k) (now (lower .exit)) ≡ drop (storeSize «block_size» k) (now (lower .entry))) × (drop (storeSize «block_size» k) (now (upper .exit)) ≡ drop (storeSize «block_size» k) (now (upper .entry))) ⌝ }
 {

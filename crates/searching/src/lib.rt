@@ -1,7 +1,7 @@
 // The search for the most biased bits of a block: every k-subset is scored by the counts of its bins, and the best is kept.
-pub mod candidate;
-pub mod climb;
+mod candidate;
+mod climb;
 pub mod finding;
-pub mod pass;
+mod pass;
 pub mod search;
-pub mod stepping;
+mod stepping;

@@ -6,7 +6,7 @@ ghost use Rattle.counting.specs.Words.{storedBit};
 ghost use Rattle.ranking.specs.Ranking.{Roots};
 ghost use Rattle.subsets.specs.Subsets.{padded};
 ghost use Rattle.searching.specs.Finding.{winnerOf};
-ghost use Rattle.searching.specs.Pass.{Searchable, Room, LayerBelow, Space, Won};
+ghost use Rattle.searching.specs.Pass.{Searchable, BufferRoom, LayerBelow, Space, Won};
 use crate::candidate::rank_candidate;
 use crate::finding::Finding;
 use crate::stepping::begin;
@@ -32,7 +32,7 @@ pub fn find(
     requires { ⌜ Searchable (length (now words)) stride n «block_size» k ⌝ }
     requires { ⌜ LayerBelow (storedBit stride (now words)) n «block_size» k (now layer) ⌝ }
     requires { ⌜ Space «block_size» k (now layer) (now counts) (now ranks) ⌝ }
-    requires { ⌜ Room k (now bins) (now order) ⌝ }
+    requires { ⌜ BufferRoom k (now bins) (now order) ⌝ }
     ensures { λ r. ⌜ Won (storedBit stride (now (words .entry))) n «block_size» k (now (bins .entry)) (now (order .entry)) r (now (bins .exit)) (now (order .exit)) ⌝ }
 {
     let mut roots = no_roots();
@@ -66,7 +66,7 @@ fn table_size(k: usize) -> usize
     if k < 8 { 1 << k } else { 256 }
 }
 
-// The same with room for the roots.
+// The same with room for the roots. What is left in roots, counts and ranks is free.
 fn find_with(
     roots: &mut [f64],
     words: &[u64],
@@ -84,7 +84,7 @@ fn find_with(
     requires { ⌜ Searchable (length (now words)) stride n «block_size» k ⌝ }
     requires { ⌜ LayerBelow (storedBit stride (now words)) n «block_size» k (now layer) ⌝ }
     requires { ⌜ Space «block_size» k (now layer) (now counts) (now ranks) ⌝ }
-    requires { ⌜ Room k (now bins) (now order) ⌝ }
+    requires { ⌜ BufferRoom k (now bins) (now order) ⌝ }
     ensures { λ r. ⌜ Won (storedBit stride (now (words .entry))) n «block_size» k (now (bins .entry)) (now (order .entry)) r (now (bins .exit)) (now (order .exit)) ⌝ }
 {
     fill_roots(roots, n as u32, k);
@@ -135,6 +135,7 @@ fn find_with(
 }
 
 // The best k-subset. A block of k bits has one only, which the pass would rank twice.
+// The first 2 ^ k entries of the buffers, counts and ranks are free.
 fn pick(
     words: &[u64],
     stride: usize,
@@ -151,7 +152,7 @@ fn pick(
     requires { ⌜ Searchable (length (now words)) stride n «block_size» k ⌝ }
     requires { ⌜ LayerBelow (storedBit stride (now words)) n «block_size» k (now layer) ⌝ }
     requires { ⌜ Space «block_size» k (now layer) (now counts) (now ranks) ⌝ }
-    requires { ⌜ Room k (now bins) (now order) ⌝ }
+    requires { ⌜ BufferRoom k (now bins) (now order) ⌝ }
     requires { ⌜ Roots n k (now roots) ⌝ }
     ensures { λ r. ⌜ r ≡ padded (winnerOf (storedBit stride (now (words .entry))) n «block_size» k) ⌝ }
     ensures { λ _. ⌜ (drop (2 ^ k) (now (bins .exit)) ≡ drop (2 ^ k) (now (bins .entry))) × (drop (2 ^ k) (now (order .exit)) ≡ drop (2 ^ k) (now (order .entry))) ⌝ }
@@ -175,7 +176,7 @@ fn pick(
 }
 
 // The pass: a later subset takes the place of the best so far only where its z is greater.
-// The buffers are left at the last candidate.
+// The first 2 ^ k entries of the buffers, left at the last candidate, are free, and so are counts and ranks.
 fn walk(
     words: &[u64],
     stride: usize,
@@ -192,7 +193,7 @@ fn walk(
     requires { ⌜ Searchable (length (now words)) stride n «block_size» k ⌝ }
     requires { ⌜ LayerBelow (storedBit stride (now words)) n «block_size» k (now layer) ⌝ }
     requires { ⌜ Space «block_size» k (now layer) (now counts) (now ranks) ⌝ }
-    requires { ⌜ Room k (now bins) (now order) ⌝ }
+    requires { ⌜ BufferRoom k (now bins) (now order) ⌝ }
     requires { ⌜ Roots n k (now roots) ⌝ }
     ensures { λ r. ⌜ r ≡ padded (winnerOf (storedBit stride (now (words .entry))) n «block_size» k) ⌝ }
     ensures { λ _. ⌜ (drop (2 ^ k) (now (bins .exit)) ≡ drop (2 ^ k) (now (bins .entry))) × (drop (2 ^ k) (now (order .exit)) ≡ drop (2 ^ k) (now (order .entry))) ⌝ }

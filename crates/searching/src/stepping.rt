@@ -11,6 +11,7 @@ use layers::run::begin_run;
 use subsets::stepping::successor;
 
 // The run of the bits where a layer is lent; where every bin is counted none is needed.
+// Entries of counts and ranks of which the run does not speak are free, and all are where no layer is lent.
 pub fn begin(
     bits: &[u32],
     words: &[u64],
@@ -33,6 +34,7 @@ pub fn begin(
 }
 
 // Steps to the next subset, and its run with it where one is needed; false where there is none.
+// Entries of counts and ranks of which the run does not speak are free, and all are where no layer is lent or there is no next.
 pub fn step(
     bits: &mut [u32],
     k: usize,

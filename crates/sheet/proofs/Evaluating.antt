@@ -22,7 +22,7 @@ use Rattle.searching.proofs.Filled.{length-counts, length-order}
 use Rattle.searching.proofs.Walking.{winner-optimal}
 use Rattle.judging.specs.Check.{chosen, lengthRefusal, shapeRefusal, scratchRefusal, divisionRefusal, orderRefusal}
 use Rattle.judging.specs.Permutation.{eachOnce}
-use Rattle.judging.specs.Evaluation.{positiveIn, zIn, blocksRefusal, earlyRefusal, evaluationRefusal, answerWith, evaluatedOf}
+use Rattle.judging.specs.Evaluation.{positiveIn, zIn, blocksRefusal, earlyEvaluationRefusal, evaluationRefusal, answerWith, evaluatedOf}
 use Rattle.judging.specs.declared.evaluation.Score.the-variants.{Z}
 use Rattle.judging.proofs.Checking.{limit-none}
 use Rattle.judging.proofs.Once.{once-permutes}
@@ -98,8 +98,8 @@ module _ (B k : ℕ) (bytes : List ℕ) (ok : validSize B ≡ true) (some : 1 �
   order-free = simp (once, division-free)
 
   module _ (testing : List ℕ) (scratch : ℕ) (least : 1 ≤ blocksIn B testing) (most : blocksIn B testing ≤ 16777216) (room : 2 ^ k ≤ scratch) where
-    early-free : earlyRefusal f (length order) (blocksIn B testing) scratch ≡ 0
-    unfolding earlyRefusal blocksRefusal scratchRefusal
+    early-free : earlyEvaluationRefusal f (length order) (blocksIn B testing) scratch ≡ 0
+    unfolding earlyEvaluationRefusal blocksRefusal scratchRefusal
     early-free = simp (shape-free, le-leb _ _ most, width-is, le-leb _ _ room)
 
     free : evaluationRefusal f order testing scratch ≡ 0

@@ -8,6 +8,7 @@ use searching::finding::Finding;
 use searching::search::brute_force_threads;
 
 // The best subset of the training bytes, by the direct search; its bin order stands in the first 2 ^ k entries of the order buffer afterwards.
+// The other entries of the order buffer, and the bin buffer, are free.
 pub fn train(
     block_size: usize,
     k: usize,

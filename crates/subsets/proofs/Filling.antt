@@ -7,7 +7,7 @@ use native.Mathlib.Omega.{arith}
 use mathlib.Core.List.{List, [], _∷_, _++_}
 use lib.ListN.{length, take, drop, set, replicate, length-set, length-append, length-replicate, take-append-drop}
 use lib.Seq.{take-suc-set, drop-set-lt, take-at, drop-at, length-take-le}
-use Rattle.subsets.specs.Subsets.{run, padded}
+use Rattle.subsets.specs.Subsets.{numbersFrom, padded}
 
 -- ---- what an array holds
 
@@ -26,9 +26,9 @@ padded-length s h = omega (arith, length-append s (replicate (20 - length s) 0),
 
 -- ---- the first subset
 
-run-snoc : (lo k : ℕ) → run lo (suc k) ≡ run lo k ++ ((lo + k) ∷ [])
-run-snoc lo zero = ap (λ (x : ℕ). x ∷ []) (omega arith)
-run-snoc lo (suc k) = ap (λ (s : List ℕ). lo ∷ s) (run-snoc (suc lo) k ∙ ap (λ (x : ℕ). run (suc lo) k ++ (x ∷ [])) (omega arith))
+numbers-snoc : (lo k : ℕ) → numbersFrom lo (suc k) ≡ numbersFrom lo k ++ ((lo + k) ∷ [])
+numbers-snoc lo zero = ap (λ (x : ℕ). x ∷ []) (omega arith)
+numbers-snoc lo (suc k) = ap (λ (s : List ℕ). lo ∷ s) (numbers-snoc (suc lo) k ∙ ap (λ (x : ℕ). numbersFrom (suc lo) k ++ (x ∷ [])) (omega arith))
 
 -- one entry further
 pub drop-next : (q : ℕ) (m : List ℕ) → drop (suc q) m ≡ drop 1 (drop q m)
@@ -39,7 +39,7 @@ drop-next (suc q) (x ∷ m) = drop-next q m
 -- its first i entries are written
 pub record Filled (i : ℕ) (l : List ℕ) : Type 0 where
   pub size : length l ≡ 20
-  pub front : take i l ≡ run 0 i
+  pub front : take i l ≡ numbersFrom 0 i
   pub rest : drop i l ≡ replicate (20 - i) 0
 
 pub fill : (i : ℕ) (l : List ℕ) → i < 20 → Filled i l → Filled (i + 1) (set l i i)
@@ -49,11 +49,11 @@ fill i l h f =
     let r : drop i l ≡ replicate (suc (20 - suc i)) 0 = f .rest ∙ ap (λ (n : ℕ). replicate n 0) e in
     rw add-one (record {
       size = length-set l i i ∙ f .size;
-      front = take-suc-set l i i room ∙ ap (λ (s : List ℕ). s ++ (i ∷ [])) (f .front) ∙ ap (λ (x : ℕ). run 0 i ++ (x ∷ [])) (sym (zero-add i)) ∙ sym (run-snoc 0 i);
+      front = take-suc-set l i i room ∙ ap (λ (s : List ℕ). s ++ (i ∷ [])) (f .front) ∙ ap (λ (x : ℕ). numbersFrom 0 i ++ (x ∷ [])) (sym (zero-add i)) ∙ sym (numbers-snoc 0 i);
       rest = drop-set-lt (suc i) l i i (omega arith) ∙ drop-next i l ∙ ap (drop 1) r;
     })
 
-pub filled : (i k : ℕ) (l : List ℕ) → i ≡ k → k ≤ 20 → Filled i l → l ≡ padded (run 0 k)
+pub filled : (i k : ℕ) (l : List ℕ) → i ≡ k → k ≤ 20 → Filled i l → l ≡ padded (numbersFrom 0 k)
 filled i k l e h f =
     let g : Filled k l = subst (λ (j : ℕ). Filled j l) e f in
     padded-of k l (omega (arith, g .size)) (g .rest) ∙ ap padded (g .front)

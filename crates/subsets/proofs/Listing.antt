@@ -7,7 +7,7 @@ use native.Mathlib.Omega.{arith}
 use mathlib.Core.List.{List, [], _∷_, _++_, map, List·Memᴰ, List·Memᴰ·head, List·Memᴰ·tail, List·Memᴰ·not-nil, List·Memᴰ·eq-of-singleton, List·Memᴰ·append-cases, Memᴰ·append-left, Memᴰ·append-right, Memᴰ·cast, Memᴰ·map, Memᴰ·of-map}
 use lib.Dec.{T}
 use lib.ListN.{length, getD}
-use Rattle.subsets.specs.Subsets.{Rising, Subset, lexLt, subsetsFrom, subsets, Sorted, Lists}
+use Rattle.subsets.specs.Subsets.{Rising, Subset, lexLt, subsetsFrom, subsets, Sorted, Lists, SubsetsListed}
 use Rattle.subsets.proofs.Lex.{lex-head, lex-tail, lex-irrefl}
 
 -- ---- a rising list
@@ -106,7 +106,7 @@ sorted (suc m) lo (suc k) =
 
 -- ---- the statement on a block
 
-pub listed : (B k : ℕ) → Lists B k (subsets B k)
+pub listed : SubsetsListed
 listed B k = record {
   complete = λ s h. complete B 0 B k s (omega arith) (h .size, h .rising);
   sound = λ s p. let r = sound B 0 B k s (omega arith) p in record { size = r .0; rising = r .1 };

@@ -9,12 +9,12 @@ use mathlib.Core.List.{List, [], _∷_, _++_, map, append-assoc, List·Memᴰ}
 use lib.Dec.{T}
 use lib.ListN.{length, length-append, length-map}
 use borrow.Author.Tests.{le-ltb, lt-ltb, eq-eqb, ne-eqb}
-use Rattle.subsets.specs.Subsets.{Rising, Subset, lexLt, subsetsFrom, subsets, run, Next, Last}
+use Rattle.subsets.specs.Subsets.{Rising, Subset, lexLt, subsetsFrom, subsets, numbersFrom, Next, Last}
 use Rattle.subsets.specs.Choose.{choose}
-use Rattle.subsets.specs.Rank.{countBefore, rankOf, indexFrom, Ranks}
+use Rattle.subsets.specs.Rank.{countBefore, rankOf, indexFrom, Ranks, SubsetsRanked}
 use Rattle.subsets.proofs.Lex.{lex-irrefl, lex-asym, lex-cases, lex-total}
 use Rattle.subsets.proofs.Listing.{sound, Among, listed}
-use Rattle.subsets.proofs.Visiting.{length-run, run-first}
+use Rattle.subsets.proofs.Visiting.{length-numbers, numbers-first}
 use Rattle.subsets.proofs.Walking.{stands, count-append, count-none, rank-here, past-here, next-here, last-here}
 
 -- ---- the number of k-subsets
@@ -85,13 +85,13 @@ module _ (B k : ℕ) where
   below : (s : List ℕ) → Subset B k s → rankOf B s < choose B k
   below s h = let w = stands B k s h in omega (arith, rank-here B k (w .pre) s (w .rest) (w .here) (h .size), split (w .pre) s (w .rest) (w .here))
 
-  first : k ≤ B → rankOf B (run 0 k) ≡ 0
-  first h = ap (λ (n : ℕ). countBefore (run 0 k) (subsets B n)) (length-run 0 k) ∙ count-none (run 0 k) (subsets B k) none
+  first : k ≤ B → rankOf B (numbersFrom 0 k) ≡ 0
+  first h = ap (λ (n : ℕ). countBefore (numbersFrom 0 k) (subsets B n)) (length-numbers 0 k) ∙ count-none (numbersFrom 0 k) (subsets B k) none
     where
-      none : (x : List ℕ) → List·Memᴰ x (subsets B k) → T (lexLt x (run 0 k)) → ⊥
-      none x p l = elim (run-first B k x (listed B k .sound x p)) [
-        | inl e ↦ lex-irrefl (run 0 k) (subst (λ (w : List ℕ). T (lexLt w (run 0 k))) e l)
-        | inr q ↦ lex-asym x (run 0 k) l q
+      none : (x : List ℕ) → List·Memᴰ x (subsets B k) → T (lexLt x (numbersFrom 0 k)) → ⊥
+      none x p l = elim (numbers-first B k x (listed B k .sound x p)) [
+        | inl e ↦ lex-irrefl (numbersFrom 0 k) (subst (λ (w : List ℕ). T (lexLt w (numbersFrom 0 k))) e l)
+        | inr q ↦ lex-asym x (numbersFrom 0 k) l q
       ]
 
   last : (s : List ℕ) → Subset B k s → Last B k s → suc (rankOf B s) ≡ choose B k
@@ -130,8 +130,8 @@ module _ (B k : ℕ) where
     | inr (inr l) ↦ absurd (omega (arith, rises t s g h l))
   ]
 
-  pub ranks : Ranks B k
-  ranks = record {
+  ranks-here : Ranks B k
+  ranks-here = record {
     total = total;
     index = λ s h. rank-from B 0 B s (zero-add B) (h .rising);
     below = below;
@@ -141,6 +141,9 @@ module _ (B k : ℕ) where
     rises = rises;
     same = same;
   }
+
+pub ranks : SubsetsRanked
+ranks = ranks-here
 
 -- a loop's measure: how many subsets are left
 pub next-falls : (B k : ℕ) (s t : List ℕ) → Subset B k s → Next B k s t → choose B k - rankOf B t < choose B k - rankOf B s

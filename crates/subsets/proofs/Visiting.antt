@@ -8,52 +8,52 @@ use mathlib.Core.Bool.{Bool, not}
 use mathlib.Core.List.{List, [], _∷_}
 use lib.Dec.{T}
 use lib.ListN.{length}
-use Rattle.subsets.specs.Subsets.{Rising, Subset, lexLt, Next, Last, run}
-use Rattle.subsets.specs.Best.{Order, Beats, Optimal, Sofar, Searches, bestSubset}
+use Rattle.subsets.specs.Subsets.{Rising, Subset, lexLt, Next, Last, numbersFrom}
+use Rattle.subsets.specs.Best.{Order, Beats, Optimal, Sofar, Searches, SubsetsSearched, bestSubset}
 use Rattle.subsets.proofs.Lex.{lex-head, lex-tail, lex-asym, lex-trans, lex-total}
 use Rattle.subsets.proofs.Optimal.{over, stays, best-optimal, optimal-unique}
 
 -- ---- the first subset
 
-run-rising : (lo hi k : ℕ) → lo + k ≤ hi → Rising lo hi (run lo k)
-run-rising lo hi zero h = tt
-run-rising lo hi (suc k) h = (le-refl lo, omega arith, run-rising (suc lo) hi k (omega arith))
+numbers-rising : (lo hi k : ℕ) → lo + k ≤ hi → Rising lo hi (numbersFrom lo k)
+numbers-rising lo hi zero h = tt
+numbers-rising lo hi (suc k) h = (le-refl lo, omega arith, numbers-rising (suc lo) hi k (omega arith))
 
-pub length-run : (lo k : ℕ) → length (run lo k) ≡ k
-length-run lo zero = refl
-length-run lo (suc k) = ap suc (length-run (suc lo) k)
+pub length-numbers : (lo k : ℕ) → length (numbersFrom lo k) ≡ k
+length-numbers lo zero = refl
+length-numbers lo (suc k) = ap suc (length-numbers (suc lo) k)
 
-pub run-subset : (B k : ℕ) → k ≤ B → Subset B k (run 0 k)
-run-subset B k h = record { size = length-run 0 k; rising = run-rising 0 B k (omega arith) }
+pub numbers-subset : (B k : ℕ) → k ≤ B → Subset B k (numbersFrom 0 k)
+numbers-subset B k h = record { size = length-numbers 0 k; rising = numbers-rising 0 B k (omega arith) }
 
-run-from : (lo hi k : ℕ) (s : List ℕ) → length s ≡ k → Rising lo hi s → (s ≡ run lo k) ⊎ T (lexLt (run lo k) s)
-run-from lo hi zero [] e r = inl refl
-run-from lo hi zero (a ∷ s) e r = absurd (omega arith)
-run-from lo hi (suc k) [] e r = absurd (omega arith)
-run-from lo hi (suc k) (a ∷ s) e r = go (eq-or-lt-of-le (r .0)) (run-from (suc lo) hi k s (suc-inj e))
+numbers-from : (lo hi k : ℕ) (s : List ℕ) → length s ≡ k → Rising lo hi s → (s ≡ numbersFrom lo k) ⊎ T (lexLt (numbersFrom lo k) s)
+numbers-from lo hi zero [] e r = inl refl
+numbers-from lo hi zero (a ∷ s) e r = absurd (omega arith)
+numbers-from lo hi (suc k) [] e r = absurd (omega arith)
+numbers-from lo hi (suc k) (a ∷ s) e r = go (eq-or-lt-of-le (r .0)) (numbers-from (suc lo) hi k s (suc-inj e))
   where
-    go : (lo ≡ a) ⊎ (lo < a) → (Rising (suc lo) hi s → (s ≡ run (suc lo) k) ⊎ T (lexLt (run (suc lo) k) s)) → (a ∷ s ≡ lo ∷ run (suc lo) k) ⊎ T (lexLt (lo ∷ run (suc lo) k) (a ∷ s))
-    go (inr l) f = inr (lex-head lo a (run (suc lo) k) s l)
+    go : (lo ≡ a) ⊎ (lo < a) → (Rising (suc lo) hi s → (s ≡ numbersFrom (suc lo) k) ⊎ T (lexLt (numbersFrom (suc lo) k) s)) → (a ∷ s ≡ lo ∷ numbersFrom (suc lo) k) ⊎ T (lexLt (lo ∷ numbersFrom (suc lo) k) (a ∷ s))
+    go (inr l) f = inr (lex-head lo a (numbersFrom (suc lo) k) s l)
     go (inl q) f = elim (f (subst (λ (z : ℕ). Rising (suc z) hi s) (sym q) (r .2))) [
-      | inl x ↦ inl (let y : s ≡ run (suc lo) k = x in let z : lo ≡ a = q in cc)
-      | inr x ↦ inr (rw (← q) (lex-tail lo (run (suc lo) k) s x))
+      | inl x ↦ inl (let y : s ≡ numbersFrom (suc lo) k = x in let z : lo ≡ a = q in cc)
+      | inr x ↦ inr (rw (← q) (lex-tail lo (numbersFrom (suc lo) k) s x))
     ]
 
 -- every other stands after it
-pub run-first : (B k : ℕ) (s : List ℕ) → Subset B k s → (s ≡ run 0 k) ⊎ T (lexLt (run 0 k) s)
-run-first B k s h = run-from 0 B k s (h .size) (h .rising)
+pub numbers-first : (B k : ℕ) (s : List ℕ) → Subset B k s → (s ≡ numbersFrom 0 k) ⊎ T (lexLt (numbersFrom 0 k) s)
+numbers-first B k s h = numbers-from 0 B k s (h .size) (h .rising)
 
 -- ---- the loop
 
 module _ {S : Type 0} (less : S → S → Bool) (ok : S → Type 0) (order : Order less ok) (score : List ℕ → S) (B k : ℕ) (fine : (s : List ℕ) → Subset B k s → ok (score s)) where
-  begins : k ≤ B → Sofar less score B k (run 0 k) (run 0 k)
-  begins h = record { current = run-subset B k h; subset = run-subset B k h; place = inl refl; beats = first }
+  begins : k ≤ B → Sofar less score B k (numbersFrom 0 k) (numbersFrom 0 k)
+  begins h = record { current = numbers-subset B k h; subset = numbers-subset B k h; place = inl refl; beats = first }
     where
-      first : (s : List ℕ) → Subset B k s → (s ≡ run 0 k) ⊎ T (lexLt s (run 0 k)) → (s ≡ run 0 k) ⊎ Beats less score (run 0 k) s
+      first : (s : List ℕ) → Subset B k s → (s ≡ numbersFrom 0 k) ⊎ T (lexLt s (numbersFrom 0 k)) → (s ≡ numbersFrom 0 k) ⊎ Beats less score (numbersFrom 0 k) s
       first s X (inl e) = inl e
-      first s X (inr l) = elim (run-first B k s X) [
+      first s X (inr l) = elim (numbers-first B k s X) [
         | inl e ↦ inl e
-        | inr q ↦ absurd (lex-asym s (run 0 k) l q)
+        | inr q ↦ absurd (lex-asym s (numbersFrom 0 k) l q)
       ]
 
   -- what stands no later than the next is the next, or stands no later than this
@@ -93,12 +93,15 @@ module _ {S : Type 0} (less : S → S → Bool) (ok : S → Type 0) (order : Ord
       go s X (inr (inl e)) = inl e
       go s X (inr (inr q)) = absurd (z .none s X q)
 
-  pub searches : Searches less score B k
-  searches = record {
-    optimal = λ h. best-optimal less ok order score B k fine (run 0 k) (run-subset B k h);
+  searches-here : Searches less score B k
+  searches-here = record {
+    optimal = λ h. best-optimal less ok order score B k fine (numbersFrom 0 k) (numbers-subset B k h);
     unique = λ r p. optimal-unique less ok order score B k fine r (bestSubset less score B k) p (best-optimal less ok order score B k fine r (p .subset));
     begins = begins;
     takes = takes;
     keeps = keeps;
     ends = ends;
   }
+
+pub searches : SubsetsSearched
+searches S less ok order score B k fine = searches-here less ok order score B k fine

@@ -5,7 +5,7 @@ use mathlib.Core.List.{List, [], _∷_}
 use mathlib.Core.Logic.{_⊎_}
 use mathlib.Core.Path.{_≡_}
 use lib.Dec.{T}
-use Rattle.subsets.specs.Subsets.{Subset, lexLt, subsets, run, Next, Last}
+use Rattle.subsets.specs.Subsets.{Subset, lexLt, subsets, numbersFrom, Next, Last}
 
 -- What is needed of `less`, on the values that occur: no two are each less than the other, and what is not above a is below whatever a is below.
 -- (So it is irreflexive and transitive, and where neither of two is less they stand alike to every third.)
@@ -44,12 +44,18 @@ pub record Sofar {S : Type 0} (less : S → S → Bool) (score : List ℕ → S)
 abbrev pub bestSubset : {S : Type 0} → (S → S → Bool) → (List ℕ → S) → ℕ → ℕ → List ℕ
 bestSubset less score B k = firstBest (λ s t. less (score s) (score t)) [] (subsets B k)
 
--- What is shown of every score whose values have an order: the list's first best is optimal, nothing else is, and a loop that goes from
--- each k-subset to the next and keeps the first best ends with it.
+-- What a search is to do: the list's first best is optimal, nothing else is, and a loop that goes from each k-subset to the next and keeps
+-- the first best ends with it.
 pub record Searches {S : Type 0} (less : S → S → Bool) (score : List ℕ → S) (B k : ℕ) : Type 0 where
   pub optimal : k ≤ B → Optimal less score B k (bestSubset less score B k)
   pub unique : (r : List ℕ) → Optimal less score B k r → r ≡ bestSubset less score B k
-  pub begins : k ≤ B → Sofar less score B k (run 0 k) (run 0 k)
+  pub begins : k ≤ B → Sofar less score B k (numbersFrom 0 k) (numbersFrom 0 k)
   pub takes : (cur best t : List ℕ) → Sofar less score B k cur best → Next B k cur t → T (less (score best) (score t)) → Sofar less score B k t t
   pub keeps : (cur best t : List ℕ) → Sofar less score B k cur best → Next B k cur t → T (not (less (score best) (score t))) → Sofar less score B k t best
   pub ends : (cur best : List ℕ) → Sofar less score B k cur best → Last B k cur → Optimal less score B k best
+
+-- Theorem: so for every B and k, and every score whose values on the k-subsets have an order.
+abbrev pub SubsetsSearched : Type 1
+SubsetsSearched =
+    (S : Type 0) (less : S → S → Bool) (ok : S → Type 0) → Order less ok → (score : List ℕ → S) (B k : ℕ)
+    → ((s : List ℕ) → Subset B k s → ok (score s)) → Searches less score B k

@@ -6,7 +6,7 @@ use mathlib.Core.List.{List, [], _∷_}
 use lib.Dec.{T, leb, eqb}
 use lib.ListN.{length}
 use Rattle.counting.specs.Block.{validSize}
-use Rattle.subsets.specs.Subsets.{Subset, lexLt, subsets, run, Next, Last}
+use Rattle.subsets.specs.Subsets.{Subset, lexLt, subsets, numbersFrom, Next, Last}
 use Rattle.subsets.specs.Choose.{choose}
 use Rattle.subsets.specs.Bits.{validWidth, bitsRefusal}
 use Rattle.subsets.specs.declared.rank.Ranked.{Ranked}
@@ -26,16 +26,20 @@ indexFrom zero lo s = 0
 indexFrom (suc m) lo [] = 0
 indexFrom (suc m) lo (a ∷ s) = cond (eqb a lo) (indexFrom m (suc lo) s) (choose m (length s) + indexFrom m (suc lo) (a ∷ s))
 
--- What is shown of ranks in every block and width: the sum above is the rank, and the k-subsets in their order have the ranks 0, 1, .., choose B k - 1
+-- What ranks are to be: the sum above is the rank, and the k-subsets in their order have the ranks 0, 1, .., choose B k - 1
 pub record Ranks (B k : ℕ) : Type 0 where
   pub total : length (subsets B k) ≡ choose B k
   pub index : (s : List ℕ) → Subset B k s → rankOf B s ≡ indexFrom B 0 s
   pub below : (s : List ℕ) → Subset B k s → rankOf B s < choose B k
-  pub first : k ≤ B → rankOf B (run 0 k) ≡ 0
+  pub first : k ≤ B → rankOf B (numbersFrom 0 k) ≡ 0
   pub next : (s t : List ℕ) → Subset B k s → Next B k s t → rankOf B t ≡ suc (rankOf B s)
   pub last : (s : List ℕ) → Subset B k s → Last B k s → suc (rankOf B s) ≡ choose B k
   pub rises : (s t : List ℕ) → Subset B k s → Subset B k t → T (lexLt s t) → rankOf B s < rankOf B t
   pub same : (s t : List ℕ) → Subset B k s → Subset B k t → rankOf B s ≡ rankOf B t → s ≡ t
+
+-- Theorem: so for every B and k.
+abbrev pub SubsetsRanked : Type 0
+SubsetsRanked = (B k : ℕ) → Ranks B k
 
 -- which refusal `compute_index` gives for the bits s, 0 for none: the first that applies
 unfoldable pub rankRefusal : ℕ → ℕ → List ℕ → ℕ

@@ -46,10 +46,14 @@ pub record Lists (B k : ℕ) (l : List (List ℕ)) : Type 0 where
   pub sound : (s : List ℕ) → List·Memᴰ s l → Subset B k s
   pub sorted : Sorted l
 
+-- Theorem: so does `subsets`, for every B and k.
+abbrev pub SubsetsListed : Type 0
+SubsetsListed = (B k : ℕ) → Lists B k (subsets B k)
+
 -- k numbers from lo on; from 0 on they are the first k-subset
-abbrev pub run : ℕ → ℕ → List ℕ
-run lo zero = []
-run lo (suc k) = lo ∷ run (suc lo) k
+abbrev pub numbersFrom : ℕ → ℕ → List ℕ
+numbersFrom lo zero = []
+numbersFrom lo (suc k) = lo ∷ numbersFrom (suc lo) k
 
 -- t is the next k-subset after s: it stands after s, and every other that does stands after t
 pub record Next (B k : ℕ) (s t : List ℕ) : Type 0 where

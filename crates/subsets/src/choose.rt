@@ -21,7 +21,7 @@ fn choose_lower(n: usize, r: usize) -> usize
 }
 
 // n choose r where that is at most 2^32, and else 2^32 + 1.
-pub fn choose(n: usize, r: usize) -> usize
+pub fn choose_up_to(n: usize, r: usize) -> usize
     requires { ⌜ n < 4294967296 ⌝ }
     ensures { λ c. ⌜ c ≡ chooseUpTo n r ⌝ }
 {

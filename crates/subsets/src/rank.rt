@@ -1,7 +1,7 @@
 // The rank of a subset: the number of subsets of its width before it.
 use crate::bits::bits_refusal;
 use crate::bits::valid_width;
-use crate::choose::choose;
+use crate::choose::choose_up_to;
 use counting::block::valid_block_size;
 ghost use mathlib.Core.Path.{_≡_};
 ghost use Prim.Native.Nat.{_^_, _≤_, _<_};
@@ -25,7 +25,7 @@ pub fn rank_of(block_size: usize, bits: &[u32]) -> usize
     let mut j: usize = 0;
     while j < bits.len() {
         if i < bits[j] as usize {
-            result += choose(block_size - i - 1, bits.len() - j - 1);
+            result += choose_up_to(block_size - i - 1, bits.len() - j - 1);
             i += 1;
         } else {
             j += 1;
@@ -62,7 +62,7 @@ pub fn compute_index(block_size: usize, k: usize, bits: [u32; 20]) -> Ranked
     if refusal != 0 {
         return Ranked { refusal, rank: 0 };
     }
-    if choose(block_size, k) > 4294967296 {
+    if choose_up_to(block_size, k) > 4294967296 {
         return Ranked {
             refusal: 12,
             rank: 0,

@@ -2,13 +2,13 @@
 ghost use mathlib.Core.Path.{_≡_};
 ghost use Prim.Native.Nat.{_≤_, _<_};
 ghost use lib.ListN.{take};
-ghost use Rattle.subsets.specs.Subsets.{Subset, run, padded};
+ghost use Rattle.subsets.specs.Subsets.{Subset, numbersFrom, padded};
 ghost use Rattle.subsets.specs.Stepping.{Stepped};
 
 // The first k-subset: 0, 1, .., k - 1, and 0 in the entries past it.
 pub fn first(k: usize) -> [u32; 20]
     requires { ⌜ k ≤ 20 ⌝ }
-    ensures { λ r. ⌜ r ≡ padded (run 0 k) ⌝ }
+    ensures { λ r. ⌜ r ≡ padded (numbersFrom 0 k) ⌝ }
 {
     let mut bits = [0u32; 20];
     let mut i: usize = 0;

@@ -4,7 +4,7 @@ use Prim.Native.Nat.{ℕ}
 use lib.ListN.{length}
 use borrow.Author.Needs.{needs}
 use Rattle.searching.proofs.Refusing.{or-first, or-next}
-use Rattle.judging.specs.Check.{shapeRefusal, scratchRefusal, earlyRefusal, checkRefusal, checkedScratch}
+use Rattle.judging.specs.Check.{shapeRefusal, scratchRefusal, earlyCheckRefusal, checkRefusal, checkedScratch}
 use Rattle.judging.proofs.Checking.{Shaped, shaped, room, as-lent, is-cleared}
 use Rattle.judging.proofs.check.validate.Statement.{statement}
 use Rattle.judging.proofs.check.validate.Tie as tie
@@ -13,16 +13,16 @@ shape-refusal-requires : tie.Need-shape-refusal-requires
 shape-refusal-requires c κs = search needs
 
 -- an early refusal r is the check's, and leaves the scratch
-early : (e : tie.Start) (r : ℕ) → let a = e .args in r ≡ earlyRefusal (a .finding) (length (a .order .now)) (length (a .scratch .now)) → (r ≡ 0 → ⊥)
+early : (e : tie.Start) (r : ℕ) → let a = e .args in r ≡ earlyCheckRefusal (a .finding) (length (a .order .now)) (length (a .scratch .now)) → (r ≡ 0 → ⊥)
     → (r ≡ checkRefusal (a .finding) (a .order .now) (length (a .scratch .now))) × (a .scratch .now ≡ checkedScratch (a .finding) (length (a .order .now)) (a .scratch .now))
 unfolding checkRefusal checkedScratch
 early e r is some =
     let a = e .args in
-    let none : earlyRefusal (a .finding) (length (a .order .now)) (length (a .scratch .now)) ≡ 0 → ⊥ = λ z. some (is ∙ z) in
+    let none : earlyCheckRefusal (a .finding) (length (a .order .now)) (length (a .scratch .now)) ≡ 0 → ⊥ = λ z. some (is ∙ z) in
     (is ∙ or-first _ _ none, as-lent _ (a .finding .width) (a .scratch .now) none)
 
 returns : tie.Need-returns
-unfolding earlyRefusal
+unfolding earlyCheckRefusal
 returns c =
     let d = c .before in
     let s = d .before .before .before in
@@ -39,7 +39,7 @@ scratch-refusal-requires : tie.Need-scratch-refusal-requires
 scratch-refusal-requires c κs = facts c .limits .width
 
 returns-2 : tie.Need-returns-2
-unfolding earlyRefusal
+unfolding earlyCheckRefusal
 returns-2 c =
     let e = c .before .before in
     let s = e .before .before .before .before in
@@ -59,7 +59,7 @@ same-length : tie.Need-same-length
 same-length c = search needs
 
 returns-3 : tie.Need-returns-3
-unfolding checkRefusal checkedScratch earlyRefusal
+unfolding checkRefusal checkedScratch earlyCheckRefusal
 returns-3 c =
     let d = c .before .before in
     let e = d .before .before in

@@ -1,4 +1,4 @@
--- `evaluation::early_refusal` meets its contract: the first refusal that is not 0.
+-- `evaluation::early_evaluation_refusal` meets its contract: the first refusal that is not 0.
 use mathlib.Core.Path.{_≡_, sym, _∙_}
 use native.Mathlib.Omega.{arith}
 use borrow.Author.Needs.{needs}
@@ -6,16 +6,16 @@ use borrow.Author.Tests.{le-leb, lt-leb}
 use Rattle.counting.proofs.Accepted.{valid-facts}
 use Rattle.searching.proofs.Refusing.{or-first}
 use Rattle.judging.specs.Check.{shapeRefusal}
-use Rattle.judging.specs.Evaluation.{blocksRefusal, earlyRefusal}
+use Rattle.judging.specs.Evaluation.{blocksRefusal, earlyEvaluationRefusal}
 use Rattle.judging.proofs.Checking.{Shaped, shaped}
-use Rattle.judging.proofs.evaluation.early_refusal.Statement.{statement}
-use Rattle.judging.proofs.evaluation.early_refusal.Tie as tie
+use Rattle.judging.proofs.evaluation.early_evaluation_refusal.Statement.{statement}
+use Rattle.judging.proofs.evaluation.early_evaluation_refusal.Tie as tie
 
 shape-refusal-requires : tie.Need-shape-refusal-requires
 shape-refusal-requires c κs = search needs
 
 returns : tie.Need-returns
-unfolding earlyRefusal
+unfolding earlyEvaluationRefusal
 returns c =
     let is = c .before .shape-refusal .ensures in
     is ∙ or-first _ _ (λ z. c .if1 .taken (is ∙ z))
@@ -30,17 +30,17 @@ div-if2 : tie.Need-div-if2
 div-if2 c = omega (arith, valid-facts _ (facts (c .before) .limits .valid))
 
 returns-2 : tie.Need-returns-2
-unfolding earlyRefusal blocksRefusal
+unfolding earlyEvaluationRefusal blocksRefusal
 returns-2 c = simp (shape-ok (c .before .before), lt-leb _ _ (c .if2 .taken))
 
 scratch-refusal-requires : tie.Need-scratch-refusal-requires
 scratch-refusal-requires c κs = facts (c .before .before) .limits .width
 
 returns-3 : tie.Need-returns-3
-unfolding earlyRefusal blocksRefusal
+unfolding earlyEvaluationRefusal blocksRefusal
 returns-3 c =
     let e = c .before in
     c .scratch-refusal .ensures ∙ simp (shape-ok (e .before .before), le-leb _ _ (e .if2 .left))
 
-pub early-refusal-spec : {M : Type 1} → statement M
-early-refusal-spec = tie.close (tie.spec shape-refusal-requires returns div-if2 returns-2 scratch-refusal-requires returns-3)
+pub early-evaluation-refusal-spec : {M : Type 1} → statement M
+early-evaluation-refusal-spec = tie.close (tie.spec shape-refusal-requires returns div-if2 returns-2 scratch-refusal-requires returns-3)

@@ -11,7 +11,7 @@ use Rattle.counting.proofs.Counts.{counts-add-up}
 use Rattle.searching.proofs.Filled.{length-counts}
 use Rattle.judging.specs.Check.{chosen}
 use Rattle.judging.specs.Permutation.{Permutation}
-use Rattle.judging.specs.Evaluation.{blocksOf, positiveOf}
+use Rattle.judging.specs.Evaluation.{testingBlocks, positiveOf}
 use Rattle.judging.proofs.Evaluating.{recorded-small}
 use Rattle.judging.proofs.evaluation.evaluate.Statement.{statement}
 use Rattle.judging.proofs.evaluation.evaluate.Tie as tie
@@ -44,7 +44,7 @@ sum-first-requires c κs =
     let s = start d in
     let f = s .args .finding in
     let bit = recordedBit (f .«block_size») (s .args .bytes .now) in
-    let n = blocksOf f (s .args .bytes .now) in
+    let n = testingBlocks f (s .args .bytes .now) in
     let is = d .count-blocks .ensures in
     let long = ap length is ∙ length-counts bit n (chosen f) ∙ ap (λ (k : ℕ). 2 ^ k) (s .pre .1 .1 .0) in
     let sum = ap total is ∙ counts-add-up n bit (recorded-small (f .«block_size») (s .args .bytes .now)) (chosen f) in

@@ -11,7 +11,7 @@ use Rattle.scoring.specs.Halves.{part}
 use Rattle.scoring.specs.Score.{zScore}
 use Rattle.searching.proofs.Refusing.{or-first, or-next}
 use Rattle.judging.specs.Check.{orderRefusal}
-use Rattle.judging.specs.Evaluation.{blocksOf, countsIn, scoreFor, earlyRefusal, evaluationRefusal, evaluatedOf, evaluatedScratch}
+use Rattle.judging.specs.Evaluation.{testingBlocks, countsIn, scoreFor, earlyEvaluationRefusal, evaluationRefusal, evaluatedOf, evaluatedScratch}
 use Rattle.judging.specs.declared.evaluation.Evaluated.{Evaluated}
 use Rattle.judging.specs.declared.evaluation.Score.the-variants.{NoSample}
 use Rattle.judging.proofs.Checking.{Ordered, ordered, chosen-length}
@@ -24,8 +24,8 @@ use Rattle.judging.proofs.evaluation.evaluate_histogram.Tie as tie
 abbrev refusedWith : ℕ → Evaluated
 refusedWith r = record { refusal = r; positive = 0; score = NoSample }
 
-early-refusal-requires : tie.Need-early-refusal-requires
-early-refusal-requires c κs = search needs
+early-evaluation-refusal-requires : tie.Need-early-evaluation-refusal-requires
+early-evaluation-refusal-requires c κs = search needs
 
 refused-requires : tie.Need-refused-requires
 refused-requires c κs = search needs
@@ -35,8 +35,8 @@ unfolding evaluatedOf evaluatedScratch evaluationRefusal
 returns c =
     let d = c .before .before in
     let a = d .before .before .before .before .args in
-    let is = d .early-refusal .ensures in
-    let some : earlyRefusal (a .finding) (length (a .order .now)) (blocksOf (a .finding) (a .bytes .now)) (length (a .scratch .now)) ≡ 0 → ⊥ = λ z. c .before .if1 .taken (is ∙ z) in
+    let is = d .early-evaluation-refusal .ensures in
+    let some : earlyEvaluationRefusal (a .finding) (length (a .order .now)) (testingBlocks (a .finding) (a .bytes .now)) (length (a .scratch .now)) ≡ 0 → ⊥ = λ z. c .before .if1 .taken (is ∙ z) in
     let whole = is ∙ or-first _ (orderRefusal (a .finding .width) (a .finding .division) (a .order .now)) some in
     let answer = c .refused .ensures ∙ ap refusedWith whole ∙ answer-refused _ _ _ _ (λ z. some (sym is ∙ whole ∙ z)) in (
       answer,
@@ -51,11 +51,11 @@ returns c =
 abbrev start : tie.Else1 → tie.Start
 start e = e .before .before .before .before .before
 
-none : (e : tie.Else1) → let a = start e .args in earlyRefusal (a .finding) (length (a .order .now)) (blocksOf (a .finding) (a .bytes .now)) (length (a .scratch .now)) ≡ 0
-none e = sym (e .before .early-refusal .ensures) ∙ e .if1 .left
+none : (e : tie.Else1) → let a = start e .args in earlyEvaluationRefusal (a .finding) (length (a .order .now)) (testingBlocks (a .finding) (a .bytes .now)) (length (a .scratch .now)) ≡ 0
+none e = sym (e .before .early-evaluation-refusal .ensures) ∙ e .if1 .left
 
-facts : (e : tie.Else1) → let a = start e .args in Early (a .finding) (length (a .order .now)) (blocksOf (a .finding) (a .bytes .now)) (length (a .scratch .now))
-facts e = let a = start e .args in early (a .finding) (length (a .order .now)) (blocksOf (a .finding) (a .bytes .now)) (length (a .scratch .now)) (none e)
+facts : (e : tie.Else1) → let a = start e .args in Early (a .finding) (length (a .order .now)) (testingBlocks (a .finding) (a .bytes .now)) (length (a .scratch .now))
+facts e = let a = start e .args in early (a .finding) (length (a .order .now)) (testingBlocks (a .finding) (a .bytes .now)) (length (a .scratch .now)) (none e)
 
 order-refusal-requires : tie.Need-order-refusal-requires
 order-refusal-requires c κs = let f = facts (c .before) in (f .shape .limits .width, f .space)
@@ -162,7 +162,7 @@ returns-3 c =
     let a = start (passed g) .args in
     let f = a .finding in
     let k = f .width in
-    let n = blocksOf f (a .bytes .now) in
+    let n = testingBlocks f (a .bytes .now) in
     let found = v .evaluate .ensures .0 in
     let scored = c .score-of .ensures ∙ ap (λ (x : ℕ). scoreFor n (zScore n x (part (f .division) k))) found in
     let all = sym (or-next _ _ (none (passed g))) ∙ order-ok g in
@@ -184,7 +184,7 @@ pub evaluate-histogram-spec : {M : Type 1} → statement M
 evaluate-histogram-spec =
     tie.close
     (tie.spec
-    early-refusal-requires
+    early-evaluation-refusal-requires
     refused-requires
     returns
     order-refusal-requires

@@ -11,7 +11,7 @@ use borrow.Author.Needs.{needs}
 use Rattle.scoring.specs.Halves.{part}
 use Rattle.scoring.specs.Score.{zScore, abs}
 use Rattle.ranking.specs.Order.{orderOf, BinsBelow}
-use Rattle.ranking.specs.Peak.{step, peak}
+use Rattle.ranking.specs.Peak.{better, peak}
 use Rattle.counting.specs.Sample.{total}
 use Rattle.ranking.specs.Ranking.{inBinOrder, sizeAt, zeroScore, asRanking, asPeak, scoreOf}
 use Rattle.ranking.specs.declared.ranking.Ranking.{Ranking}
@@ -28,12 +28,12 @@ abbrev μ-loop : tie.MeasureT-loop
 
 -- one more division: where the best of i divisions, the sum and the size are right, so is the better of the two
 more : (n k : ℕ) (ordered : List ℕ) (i j c : ℕ) (best r : Ranking) (z : Float) → j ≡ suc i → best ≡ asRanking (peak lt zeroScore (sizeAt n k ordered) i)
-    → c ≡ total (take j ordered) → z ≡ abs (zScore n c (part j k)) → r ≡ asRanking (step (lt (best .z) z) j z (asPeak best))
+    → c ≡ total (take j ordered) → z ≡ abs (zScore n c (part j k)) → r ≡ asRanking (better (lt (best .z) z) j z (asPeak best))
     → r ≡ asRanking (peak lt zeroScore (sizeAt n k ordered) j)
 unfolding peak sizeAt
 more n k ordered i j c best r z J B C Z R =
-    R ∙ ap₂ (λ (b : Ranking) (y : Float). asRanking (step (lt (b .z) y) j y (asPeak b))) B (Z ∙ ap (λ (x : ℕ). abs (zScore n x (part j k))) C)
-    ∙ ap (λ (x : ℕ). asRanking (step (lt (peak lt zeroScore (sizeAt n k ordered) i .value) (sizeAt n k ordered x)) x (sizeAt n k ordered x) (peak lt zeroScore (sizeAt n k ordered) i))) J
+    R ∙ ap₂ (λ (b : Ranking) (y : Float). asRanking (better (lt (b .z) y) j y (asPeak b))) B (Z ∙ ap (λ (x : ℕ). abs (zScore n x (part j k))) C)
+    ∙ ap (λ (x : ℕ). asRanking (better (lt (peak lt zeroScore (sizeAt n k ordered) i .value) (sizeAt n k ordered x)) x (sizeAt n k ordered x) (peak lt zeroScore (sizeAt n k ordered) i))) J
     ∙ ap (λ (x : ℕ). asRanking (peak lt zeroScore (sizeAt n k ordered) x)) (sym J)
 
 -- a turn adds the count at place i of the order

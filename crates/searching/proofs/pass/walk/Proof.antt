@@ -8,7 +8,7 @@ use Rattle.counting.specs.Words.{storedBit}
 use Rattle.ranking.specs.declared.ranking.Ranking.{Ranking}
 use Rattle.subsets.specs.Choose.{choose}
 use Rattle.subsets.specs.Subsets.{Subset}
-use Rattle.subsets.proofs.Visiting.{run-subset}
+use Rattle.subsets.proofs.Visiting.{numbers-subset}
 use Rattle.subsets.specs.Rank.{rankOf}
 use Rattle.searching.specs.Pass.{Ready}
 use Rattle.searching.proofs.Filled.{counts-rest, order-rest}
@@ -60,7 +60,7 @@ is-first : (d : tie.After-first Inv-loop μ-loop) → Subset (start d .args .blo
 is-first d =
     let s = start d in
     rw (first-front (bit s) (s .args .n) (s .args .block-size) (s .args .k) (s .pre .0 .chosen) (s .pre .0 .width) (d .first .result) (d .first .ensures))
-    (run-subset (s .args .block-size) (s .args .k) (s .pre .0 .chosen))
+    (numbers-subset (s .args .block-size) (s .args .k) (s .pre .0 .chosen))
 
 -- the next
 is-next : (d : tie.After-step Inv-loop μ-loop) → d .step .result ≡ true

@@ -1,8 +1,8 @@
--- `choose::choose` meets its contract: past its row a binomial is 0, and the row's halves are alike.
+-- `choose::choose_up_to` meets its contract: past its row a binomial is 0, and the row's halves are alike.
 use borrow.Author.Needs.{needs}
 use Rattle.subsets.proofs.Choosing.{past-row, other-half}
-use Rattle.subsets.proofs.choose.choose.Statement.{statement}
-use Rattle.subsets.proofs.choose.choose.Tie as tie
+use Rattle.subsets.proofs.choose.choose_up_to.Statement.{statement}
+use Rattle.subsets.proofs.choose.choose_up_to.Tie as tie
 
 returns : tie.Need-returns
 returns c = past-row (c .before .args .n) (c .before .args .r) (c .if1 .taken)
@@ -21,6 +21,6 @@ choose-lower-requires-2 c κs = search needs
 returns-3 : tie.Need-returns-3
 returns-3 c = search needs
 
-pub choose-spec : {M : Type 1} → statement M
-choose-spec =
+pub choose-up-to-spec : {M : Type 1} → statement M
+choose-up-to-spec =
     tie.close (tie.spec returns choose-lower-requires returns-2 choose-lower-requires-2 returns-3)

@@ -70,8 +70,8 @@ returns-4 c =
     let r = c .before .bits-refusal in
     bad-bits (a .block-size) (a .k) (take (a .k) (a .t3)) (size-ok d) (width-ok (e .before)) (e .if3 .left) (r .result) (r .ensures) (c .if4 .taken)
 
-choose-requires : tie.Need-choose-requires
-choose-requires c κs =
+choose-up-to-requires : tie.Need-choose-up-to-requires
+choose-up-to-requires c κs =
     let d = c .before .before .before .before .before .before in
     omega (arith, valid-facts (d .before .before .args .block-size) (size-ok d))
 
@@ -81,7 +81,7 @@ returns-5 c =
     let d = e .before .before .before in
     let a = d .before .before .args in
     let r = c .before .before .before .bits-refusal in
-    let n = c .before .choose in
+    let n = c .before .choose-up-to in
     let more : 2 ^ 32 < n .result = omega arith in
     too-many (a .block-size) (a .k) (take (a .k) (a .t3)) (size-ok d) (width-ok (e .before)) (e .if3 .left)
     (r .result) (n .result) (r .ensures) (c .before .before .if4 .left) (n .ensures) more
@@ -92,7 +92,7 @@ rank-of-requires c κs =
     let d = e .before .before .before in
     let a = d .before .before .args in
     let r = c .before .before .before .bits-refusal in
-    let n = c .before .choose in
+    let n = c .before .choose-up-to in
     let few : n .result ≤ 2 ^ 32 = omega arith in (
       omega (arith, valid-facts (a .block-size) (size-ok d)),
       rw (sized e) (told-within (a .block-size) (a .k) (n .result) (n .ensures) few),
@@ -105,7 +105,7 @@ returns-6 c =
     let d = e .before .before .before in
     let a = d .before .before .args in
     let r = c .before .before .before .before .bits-refusal in
-    let n = c .before .before .choose in
+    let n = c .before .before .choose-up-to in
     taken (a .block-size) (a .k) (take (a .k) (a .t3)) (size-ok d) (width-ok (e .before)) (e .if3 .left)
     (r .result) (n .result) (c .rank-of .result) (r .ensures) (c .before .before .before .if4 .left) (n .ensures) (c .before .if5 .left) (c .rank-of .ensures)
 
@@ -122,7 +122,7 @@ compute-index-spec =
     slice-aggregate-chosen
     bits-refusal-requires
     returns-4
-    choose-requires
+    choose-up-to-requires
     returns-5
     rank-of-requires
     returns-6)

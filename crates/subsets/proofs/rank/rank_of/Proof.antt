@@ -20,15 +20,15 @@ inside d =
     in-block (s .args .block-size) (s .args .bits .now) (s .pre .1) (s .pre .2) (n .result) (n .i) (n .j) (n .inv) (d .loop-test .taken)
 
 -- past a position that is not chosen, with its binomial added
-added : (d : tie.After-choose Inv-loop μ-loop)
+added : (d : tie.After-choose-up-to Inv-loop μ-loop)
     → let l = d .before .before .before .before in
-    Placing (l .before .before .args .block-size) (l .before .before .args .bits .now) (l .loop .result + d .choose .result) (l .loop .i + 1) (l .loop .j)
+    Placing (l .before .before .args .block-size) (l .before .before .args .bits .now) (l .loop .result + d .choose-up-to .result) (l .loop .i + 1) (l .loop .j)
 added d =
     let l = d .before .before .before .before in
     let s = l .before .before in
     let n = l .loop in
     skipped (s .args .block-size) (s .args .bits .now) (s .pre .1) (s .pre .2) (n .result) (n .i) (n .j) (n .inv) (d .before .before .before .loop-test .taken)
-    (d .before .if1 .taken) (d .choose .result) (d .choose .ensures)
+    (d .before .if1 .taken) (d .choose-up-to .result) (d .choose-up-to .ensures)
 
 loop-holds : tie.Need-loop-holds Inv-loop μ-loop
 loop-holds c =
@@ -44,20 +44,20 @@ shared-slice-read-if1 c = search needs
 cast-if1 : tie.Need-cast-if1 Inv-loop μ-loop
 cast-if1 c = omega (arith, c .shared-slice-known2 .given (c .before .before .loop .j))
 
-sub-choose : tie.Need-sub-choose Inv-loop μ-loop
-sub-choose c = omega (arith, inside (c .before .before))
+sub-choose-up-to : tie.Need-sub-choose-up-to Inv-loop μ-loop
+sub-choose-up-to c = omega (arith, inside (c .before .before))
 
-sub-choose-2 : tie.Need-sub-choose-2 Inv-loop μ-loop
-sub-choose-2 c = omega (arith, inside (c .before .before))
+sub-choose-up-to-2 : tie.Need-sub-choose-up-to-2 Inv-loop μ-loop
+sub-choose-up-to-2 c = omega (arith, inside (c .before .before))
 
-sub-choose-3 : tie.Need-sub-choose-3 Inv-loop μ-loop
-sub-choose-3 c = search needs
+sub-choose-up-to-3 : tie.Need-sub-choose-up-to-3 Inv-loop μ-loop
+sub-choose-up-to-3 c = search needs
 
-sub-choose-4 : tie.Need-sub-choose-4 Inv-loop μ-loop
-sub-choose-4 c = search needs
+sub-choose-up-to-4 : tie.Need-sub-choose-up-to-4 Inv-loop μ-loop
+sub-choose-up-to-4 c = search needs
 
-choose-requires : tie.Need-choose-requires Inv-loop μ-loop
-choose-requires c κs = omega (arith, c .before .before .before .before .before .pre .0)
+choose-up-to-requires : tie.Need-choose-up-to-requires Inv-loop μ-loop
+choose-up-to-requires c κs = omega (arith, c .before .before .before .before .before .pre .0)
 
 add-result : tie.Need-add-result Inv-loop μ-loop
 add-result c =
@@ -65,7 +65,7 @@ add-result c =
     let s = l .before .before in
     omega (
       arith,
-      sum-fits (s .args .block-size) (s .args .bits .now) (s .pre .1) (s .pre .2) (l .loop .result + c .choose .result) (l .loop .i + 1) (l .loop .j) (added c),
+      sum-fits (s .args .block-size) (s .args .bits .now) (s .pre .1) (s .pre .2) (l .loop .result + c .choose-up-to .result) (l .loop .i + 1) (l .loop .j) (added c),
     )
 
 add-i : tie.Need-add-i Inv-loop μ-loop
@@ -109,11 +109,11 @@ rank-of-spec =
     mul-if1
     shared-slice-read-if1
     cast-if1
-    sub-choose
-    sub-choose-2
-    sub-choose-3
-    sub-choose-4
-    choose-requires
+    sub-choose-up-to
+    sub-choose-up-to-2
+    sub-choose-up-to-3
+    sub-choose-up-to-4
+    choose-up-to-requires
     add-result
     add-i
     loop-less
