@@ -2,3 +2,4 @@ pub mod Order
 pub mod Keys
 pub mod Peak
 pub mod Ranking
+pub mod Examples

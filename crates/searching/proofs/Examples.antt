@@ -14,11 +14,11 @@ use Rattle.ranking.specs.Ranking.{inBinOrder, sizeAt, scoreOf}
 use Rattle.layers.proofs.Examples.{stores-of-eight}
 use Rattle.subsets.proofs.Examples.{ranks-of-eight}
 use Rattle.searching.specs.Finding.{winnerOf}
-use Rattle.searching.specs.Examples.{Examples}
+use Rattle.searching.specs.Examples.{SearchExamples}
 
-pub examples : Examples
+pub search-examples : SearchExamples
 unfolding winnerOf recordedBit blockBit binOf countIn listOf countsOf total part root rootAt isqrt isqrtFrom deviation zOver zScore abs before insertBin sortBins orderOf peak inBinOrder sizeAt scoreOf lt mul sub div ofInt round add neg
-examples = record {
+search-examples = record {
   always = record { chosen = refl; ordered = refl; ranked = refl };
   ties = record { chosen = refl; ordered = refl; ranked = refl };
   empty = record { chosen = refl; ordered = refl; ranked = refl };

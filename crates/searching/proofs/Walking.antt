@@ -1,30 +1,34 @@
 -- The pass over the k-subsets by their scores: what is kept, from the first subset to the last.
 use mathlib.Core.Path.{_≡_, sym, ap, subst, _∙_}
+use mathlib.Core.Logic.{_⊎_, inl, inr}
 use mathlib.Core.Bool.{Bool, true, false, not}
 use mathlib.Core.List.{List}
 use Prim.Native.Nat.{ℕ, _-_, _≤_, _<_}
 use native.Mathlib.Omega.{arith}
-use lib.Dec.{T}
+use lib.Dec.{T, not-T}
 use lib.Ieee.{Float, lt}
 use lib.ListN.{length, take, drop, replicate}
-use Rattle.counting.specs.Sample.{countsOf}
+use Rattle.counting.specs.Sample.{countIn, countsOf, total}
+use Rattle.counting.proofs.Counts.{counts-add-up}
 use Rattle.scoring.specs.Score.{Number}
 use Rattle.scoring.proofs.Less.{asym, co}
-use Rattle.ranking.proofs.Dividing.{score-number}
-use Rattle.subsets.specs.Subsets.{Subset, numbersFrom, padded}
-use Rattle.subsets.specs.Best.{Order, Optimal, Sofar, Searches}
+use Rattle.ranking.specs.Ranking.{zeroScore}
+use Rattle.ranking.specs.declared.ranking.Ranking.{Ranking}
+use Rattle.ranking.proofs.Dividing.{score-number, empty-ranking}
+use Rattle.subsets.specs.Subsets.{Subset, lexLt, numbersFrom, padded}
+use Rattle.subsets.specs.Best.{Beats, Sofar, Searches}
 use Rattle.subsets.specs.Choose.{choose}
 use Rattle.subsets.specs.Rank.{rankOf}
 use Rattle.subsets.specs.Stepping.{Stepped}
 use Rattle.subsets.proofs.Filling.{padded-front, padded-rest, padded-of, padded-length}
 use Rattle.subsets.proofs.Choosing.{choose-all}
 use Rattle.subsets.proofs.Ranking.{ranks, next-falls}
-use Rattle.subsets.proofs.Visiting.{searches, length-numbers, numbers-subset}
-use Rattle.searching.specs.Finding.{zOf, winnerOf}
+use Rattle.subsets.proofs.Visiting.{searches, length-numbers, numbers-subset, numbers-first}
+use Rattle.searching.specs.Finding.{rankingOf, zOf, winnerOf, ScoresOrdered, WinnerOptimal, WinnerAlone, EmptySamples}
 
 -- ---- the order of the scores
 
-pub scores : Order lt Number
+pub scores : ScoresOrdered
 scores = record { asym = λ a b A B. asym a b; co = λ a b c A B C. co a b c B }
 
 pub z-number : (bit : ℕ → ℕ → ℕ) (n : ℕ) (bits : List ℕ) → Number (zOf bit n bits)
@@ -99,9 +103,13 @@ module _ (bit : ℕ → ℕ → ℕ) (n B k : ℕ) (chosen : k ≤ B) (width : k
 
 -- ---- the winner
 
-pub winner-optimal : (bit : ℕ → ℕ → ℕ) (n B k : ℕ) → k ≤ B → Optimal lt (zOf bit n) B k (winnerOf bit n B k)
+pub winner-optimal : WinnerOptimal
 unfolding winnerOf
 winner-optimal bit n B k chosen = by-z bit n B k .optimal chosen
+
+pub winner-alone : WinnerAlone
+unfolding winnerOf
+winner-alone bit n B k = by-z bit n B k .unique
 
 -- a block of k bits has one k-subset
 pub only-winner : (bit : ℕ → ℕ → ℕ) (n B k : ℕ) → k ≡ B → winnerOf bit n B k ≡ numbersFrom 0 k
@@ -116,3 +124,29 @@ only-winner bit n B k e =
 
 pub winner-front : (bit : ℕ → ℕ → ℕ) (n B k : ℕ) (bits : List ℕ) → k ≤ B → bits ≡ padded (winnerOf bit n B k) → take k bits ≡ winnerOf bit n B k
 winner-front bit n B k bits chosen e = ap (take k) e ∙ padded-front k (winnerOf bit n B k) (winner-optimal bit n B k chosen .subset .size)
+
+-- ---- an empty sample
+
+counts-none : (bit : ℕ → ℕ → ℕ) (bits : List ℕ) → total (countsOf bit 0 bits) ≡ 0
+unfolding countsOf countIn
+counts-none bit bits = counts-add-up 0 (λ e b. 0) (λ e b. omega arith) bits
+
+module _ (bit : ℕ → ℕ → ℕ) where
+  empty-ranked : (bits : List ℕ) → rankingOf bit 0 bits ≡ record { division = 1; z = zeroScore }
+  empty-ranked bits = empty-ranking (length bits) (countsOf bit 0 bits) (counts-none bit bits)
+
+  level : (s t : List ℕ) → T (not (lt (zOf bit 0 s) (zOf bit 0 t)))
+  level s t =
+      let same : zOf bit 0 t ≡ zOf bit 0 s = ap (λ (r : Ranking). r .z) (empty-ranked t ∙ sym (empty-ranked s)) in
+      let own : T (not (lt (zOf bit 0 s) (zOf bit 0 s))) = not-T (lt (zOf bit 0 s) (zOf bit 0 s)) (λ l. asym (zOf bit 0 s) (zOf bit 0 s) l l) in
+      subst (λ (x : Float). T (not (lt (zOf bit 0 s) x))) (sym same) own
+
+  empty-wins : (B k : ℕ) → k ≤ B → winnerOf bit 0 B k ≡ numbersFrom 0 k
+  empty-wins B k h = sym (winner-alone bit 0 B k (numbersFrom 0 k) (record { subset = numbers-subset B k h; beats = λ s X. go s (numbers-first B k s X) }))
+    where
+      go : (s : List ℕ) → (s ≡ numbersFrom 0 k) ⊎ T (lexLt (numbersFrom 0 k) s) → (s ≡ numbersFrom 0 k) ⊎ Beats lt (zOf bit 0) (numbersFrom 0 k) s
+      go s (inl e) = inl e
+      go s (inr l) = inr (inr (level (numbersFrom 0 k) s, level s (numbersFrom 0 k), l))
+
+pub empty-samples : EmptySamples
+empty-samples bit = record { ranked = empty-ranked bit; wins = empty-wins bit }

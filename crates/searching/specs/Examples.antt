@@ -24,7 +24,7 @@ abbrev pub two : Float
 two = fin false 1 (pos 1)
 
 -- Theorem: the worked examples of the search.
-pub record Examples : Type 0 where
+pub record SearchExamples : Type 0 where
   -- 80 80 80 80: the first bit is always set
   pub always : Finds (0x80 ∷ 0x80 ∷ 0x80 ∷ 0x80 ∷ []) 1 (0 ∷ []) (1 ∷ 0 ∷ []) 1 two
   -- FF 00: every bit is set once, so all tie
