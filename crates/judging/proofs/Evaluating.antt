@@ -19,7 +19,7 @@ use Rattle.searching.proofs.Refusing.{neither, passed}
 use Rattle.subsets.proofs.Listing.{bits-below}
 use Rattle.searching.specs.declared.finding.Finding.{Finding}
 use Rattle.judging.specs.Check.{chosen, shapeRefusal, cleared}
-use Rattle.judging.specs.Evaluation.{testingBlocks, positiveOf, positiveIn, zIn, scoreFor, scoreNumber, blocksRefusal, earlyEvaluationRefusal, evaluationRefusal, answerWith, evaluatedOf, numberWith, evaluatedNumber, scratchAfter, Countable}
+use Rattle.judging.specs.Evaluation.{testingBlocks, positiveOf, positiveIn, zIn, scoreFor, scoreNumber, blocksRefusal, earlyEvaluationRefusal, evaluationRefusal, answerWith, evaluatedOf, numberWith, evaluatedNumber, scratchAfter, CountableData}
 use Rattle.judging.specs.declared.evaluation.Evaluated.{Evaluated}
 use Rattle.judging.specs.declared.evaluation.Score.the-variants.{NoSample}
 use Rattle.judging.proofs.Tallying.{counts-none}
@@ -45,7 +45,7 @@ early f order n scratch e =
     let r = passed (leb n 16777216) 0 12 (omega arith) (q .0) in
     record { shape = shaped f order (p .0); blocks = leb-true n 16777216 (r .0); space = room (f .width) scratch (q .1) }
 
-pub countable : (f : Finding) (order scratch : ℕ) (bytes : List ℕ) → Early f order (testingBlocks f bytes) scratch → length (f .bits) ≡ 20 → Countable (f .«block_size») (chosen f) bytes
+pub countable : (f : Finding) (order scratch : ℕ) (bytes : List ℕ) → Early f order (testingBlocks f bytes) scratch → length (f .bits) ≡ 20 → CountableData (f .«block_size») (chosen f) bytes
 countable f order scratch bytes e size =
     let s = e .shape in
     let w = chosen-length f (s .limits .width) size in

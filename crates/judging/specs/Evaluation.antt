@@ -91,7 +91,7 @@ evaluatedScratch f order bytes scratch =
     scratchAfter (earlyEvaluationRefusal f (length order) (testingBlocks f bytes) (length scratch)) (orderRefusal (f .width) (f .division) order) (countsIn f bytes) (f .width) scratch
 
 -- bits and data whose blocks can be counted
-pub record Countable (B : ℕ) (bits bytes : List ℕ) : Type 0 where
+pub record CountableData (B : ℕ) (bits bytes : List ℕ) : Type 0 where
   pub valid : validSize B ≡ true
   pub few : length bits ≤ 20
   pub within : Below B bits

@@ -4,7 +4,7 @@ use mathlib.Core.List.{List, [], _∷_}
 use Prim.Native.Nat.{ℕ}
 use Rattle.counting.specs.Recording.{blocksIn, recordedBit}
 use Rattle.scoring.specs.Halves.{one}
-use Rattle.searching.specs.Examples.{Examples}
+use Rattle.searching.specs.Examples.{SearchExamples}
 use Rattle.searching.specs.Finding.{findingOf, winnerOf}
 use Rattle.searching.specs.declared.finding.Finding.{Finding}
 use Rattle.judging.specs.Check.{checkRefusal}
@@ -38,7 +38,7 @@ pub record EvaluationExample : Type 0 where
 -- Theorem: all worked examples. The first, second, third, fourth, sixth and eighth of the rules are those of the search, the fifth is the evaluation, the
 -- seventh the split and the ninth the plan.
 pub record AllExamples : Type 0 where
-  pub searches : Examples
+  pub searches : SearchExamples
   pub evaluated : EvaluationExample
   pub parted : BlocksOfSixteen
   pub planned : PlansAtThousand

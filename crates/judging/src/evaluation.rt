@@ -8,7 +8,7 @@ ghost use Rattle.scoring.specs.Halves.{part};
 ghost use Rattle.scoring.specs.Score.{zScore};
 ghost use Rattle.judging.specs.Check.{chosen};
 ghost use Rattle.judging.specs.Permutation.{Permutation};
-ghost use Rattle.judging.specs.Evaluation.{positiveOf, scoreFor, earlyEvaluationRefusal, evaluatedOf, scoreNumber, evaluatedNumber, evaluatedScratch, countsIn, positiveIn, Countable};
+ghost use Rattle.judging.specs.Evaluation.{positiveOf, scoreFor, earlyEvaluationRefusal, evaluatedOf, scoreNumber, evaluatedNumber, evaluatedScratch, countsIn, positiveIn, CountableData};
 use crate::check::order_refusal;
 use crate::check::scratch_refusal;
 use crate::check::shape_refusal;
@@ -89,7 +89,7 @@ fn early_evaluation_refusal(finding: Finding, order: usize, bytes: usize, scratc
 
 // Counts the data's blocks in the bins, zeros before, and adds up those of the first `division` bins of the order.
 fn evaluate(finding: Finding, order: &[u32], bytes: &[u8], bins: &mut [u32]) -> u32
-    requires { ⌜ Countable (finding .«block_size») (chosen finding) (now bytes) ⌝ }
+    requires { ⌜ CountableData (finding .«block_size») (chosen finding) (now bytes) ⌝ }
     requires { ⌜ now bins ≡ replicate (2 ^ finding .width) 0 ⌝ }
     requires { ⌜ (length (chosen finding) ≡ finding .width) × Permutation (2 ^ finding .width) (now order) × (finding .division ≤ length (now order)) ⌝ }
     ensures { λ r. ⌜ r ≡ positiveIn finding (now (order .entry)) (now (bytes .entry)) ⌝ }
@@ -103,7 +103,7 @@ fn evaluate(finding: Finding, order: &[u32], bytes: &[u8], bins: &mut [u32]) -> 
 
 // Counts each whole block of the data in its bin. The bins are zeros before.
 fn count_blocks(bits: &[u32], block_size: usize, bytes: &[u8], bins: &mut [u32])
-    requires { ⌜ Countable «block_size» (now bits) (now bytes) ⌝ }
+    requires { ⌜ CountableData «block_size» (now bits) (now bytes) ⌝ }
     requires { ⌜ now bins ≡ replicate (2 ^ length (now bits)) 0 ⌝ }
     ensures { λ _. ⌜ now (bins .exit) ≡ countsOf (recordedBit «block_size» (now (bytes .entry))) (blocksIn «block_size» (now (bytes .entry))) (now (bits .entry)) ⌝ }
 {
