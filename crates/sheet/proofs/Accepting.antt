@@ -3,7 +3,7 @@ use mathlib.Core.Path.{_≡_, refl, sym, ap, _∙_}
 use mathlib.Core.Bool.{Bool, true, false, cond}
 use mathlib.Core.List.{List, [], _∷_}
 use Prim.Native.Nat.{ℕ, zero, suc, _+_, _-_, _*_, _/_, _^_, _≤_, _<_}
-use native.Mathlib.Nat.{mul-le-mul-right, mul-div-cancel, pow-le-pow-right}
+use native.Mathlib.Nat.{mul-le-mul-right, mul-div-cancel, pow-le-pow-right, div-le-self}
 use native.Mathlib.Omega.{arith}
 use lib.Ieee.{toBits, binary64}
 use lib.ListN.{length, take, drop, length-take, length-drop}
@@ -21,13 +21,13 @@ use Rattle.sheet.specs.Columns.{line}
 use Rattle.sheet.specs.Header.{blockSizeOf, widthOf, rawOf, inputRefusal}
 use Rattle.sheet.specs.Lines.{threeLines}
 use Rattle.sheet.specs.Training.{chosenOf}
-use Rattle.sheet.specs.Judgement.{judgedOf, linesOf, Judgeable}
+use Rattle.sheet.specs.Judgement.{judgedOf, linesOf, Judgeable, FindingEvaluated}
 use Rattle.sheet.specs.Refusal.{sheetRefusal}
-use Rattle.sheet.specs.Sheet.{trainingOf, testingOf, sheetWith, sheetOf}
+use Rattle.sheet.specs.Sheet.{trainingOf, testingOf, sheetWith, sheetOf, SheetsFit}
 use Rattle.sheet.specs.declared.judgement.Judged.{Judged}
 use Rattle.sheet.proofs.Reading.{Taken, taken}
-use Rattle.sheet.proofs.Writing.{length-lines}
-use Rattle.sheet.proofs.Evaluating.{chosen-subset, bits-are}
+use Rattle.sheet.proofs.Writing.{length-line, length-lines}
+use Rattle.sheet.proofs.Evaluating.{chosen-subset, bits-are, evaluated-is}
 
 -- ---- the halves
 
@@ -135,6 +135,12 @@ module _ (B k : ℕ) (training testing : List ℕ) (g : Judgeable B k training t
       length-lines _ (chosenOf B k training) _ refl refl
       ∙ ap (λ (n : ℕ). 91 + 8 * n) (chosen-subset B k training (g .trainable .valid) (g .trainable .some) wide fits .size)
 
+pub finding-evaluated : FindingEvaluated
+finding-evaluated B k training testing g =
+    let t = g .trainable in
+    let few : blocksIn B testing ≤ 16777216 = omega (arith, div-le-self (length testing) (B / 8), g .few) in
+    evaluated-is B k training (t .valid) (t .some) (wide B k training testing g) (fits B k training testing g) testing 256 (g .some) few (t .room .0)
+
 -- ---- the sheet
 
 pub sheet-lines : (s : List ℕ) → sheetRefusal s ≡ 0 → sheetOf s ≡ linesOf (blockSizeOf s) (widthOf s) (trainingOf s) (testingOf s)
@@ -145,3 +151,17 @@ pub sheet-refused : (s : List ℕ) (r : ℕ) → r ≡ sheetRefusal s → (r ≡
 unfolding sheetOf
 sheet-refused s zero e h = absurd (h refl)
 sheet-refused s (suc r) e h = ap (λ (q : ℕ). sheetWith q s) (sym e)
+
+pub sheets-fit : SheetsFit
+sheets-fit s = by-refusal (sheetRefusal s) refl
+  where
+    by-refusal : (r : ℕ) → sheetRefusal s ≡ r → (1 ≤ length (sheetOf s)) × (length (sheetOf s) ≤ 155)
+    by-refusal zero e =
+        let a = accepted s e in
+        let n : length (sheetOf s) ≡ 91 + 8 * widthOf s =
+        ap length (sheet-lines s e) ∙ lines-length (blockSizeOf s) (widthOf s) (trainingOf s) (testingOf s) (judgeable s a) in
+        (omega arith, omega (arith, a .taken .width))
+    by-refusal (suc r) e =
+        let some : suc r ≡ 0 → ⊥ = λ z. omega arith in
+        let n : length (sheetOf s) ≡ 9 = ap length (sheet-refused s (suc r) (sym e) some) ∙ length-line 8 (suc r ∷ []) in
+        (omega arith, omega arith)

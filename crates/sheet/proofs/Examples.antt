@@ -22,8 +22,8 @@ use Rattle.sheet.specs.Training.{chosenOf, trainedOf, trainedOrder}
 use Rattle.sheet.specs.Judgement.{judgedOf, linesOf}
 use Rattle.sheet.specs.Refusal.{sheetRefusal}
 use Rattle.sheet.specs.Sheet.{sheetOf}
-use Rattle.sheet.specs.Examples.{Examples}
+use Rattle.sheet.specs.Examples.{SheetExamples}
 
-pub examples : Examples
+pub sheet-examples : SheetExamples
 unfolding sheetOf sheetRefusal linesOf judgedOf chosenOf trainedOf trainedOrder threeLines digitOf readTo matchTo wellFormed inputRefusal symbolAt columns fields line positiveOf splitRefusal firstBlocks firstPart secondPart winnerOf validWidth validSize recordedBit blockBit binOf countIn listOf countsOf total part root rootAt isqrt isqrtFrom deviation zOver zScore abs before insertBin sortBins orderOf peak inBinOrder sizeAt scoreOf lt mul sub div ofInt round add neg toBits
-examples = record { eight = refl; narrow = refl; one = refl; none = refl }
+sheet-examples = record { eight = refl; narrow = refl; one = refl; none = refl }

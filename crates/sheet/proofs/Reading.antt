@@ -14,7 +14,7 @@ use borrow.Author.Tests.{eq-eqb, ne-eqb, le-leb, eqb-true, eqb-false, leb-true, 
 use Rattle.counting.proofs.Counts.{getD-list}
 use Rattle.sheet.specs.Columns.{symbol, symbolAt, columns}
 use Rattle.sheet.proofs.Writing.{length-columns, shifted-none, shifted-more}
-use Rattle.sheet.specs.Header.{digitOf, readTo, matchTo, fieldAt, isField, Fields, blockSizeOf, widthOf, rawOf, wellFormed, inputRefusal}
+use Rattle.sheet.specs.Header.{digitOf, readTo, matchTo, fieldAt, isField, FieldsAre, blockSizeOf, widthOf, rawOf, wellFormed, inputRefusal}
 
 -- ---- what the columns read as
 
@@ -183,5 +183,5 @@ module _ (s : List ℕ) (at : ℕ) where
         let same : fieldAt s at ≡ n = read-is 6 (omega arith) ∙ sym (shifted-none n) in
         (ap (λ (k : ℕ). matchTo s at 6 k 6) same ∙ matched s at 6 n 6 column-is, same)
 
-pub fields-are : (s : List ℕ) (at : ℕ) → Fields s at
+pub fields-are : FieldsAre
 fields-are s at = record { written = is-written s at; read = is-read s at }

@@ -27,7 +27,7 @@ use Rattle.searching.specs.declared.finding.Searched.{Searched}
 use Rattle.searching.proofs.Claiming.{claims}
 use Rattle.searching.proofs.Walking.{scores, z-number, by-z}
 use Rattle.counting.specs.declared.sampling.Sampler.{Sampler}
-use Rattle.sheet.specs.Training.{chosenOf, trainedOf, trainedOrder, Trainable, Trained}
+use Rattle.sheet.specs.Training.{chosenOf, trainedOf, trainedOrder, Trained, TrainingFits, TrainingFound}
 
 -- ---- the bytes fit the words
 
@@ -56,6 +56,9 @@ unfolding heldFrom heldAfter
 all-held B bytes h =
     let fits : 0 + length bytes ≤ capacityBytes B 576 = omega arith in
     simp (le-leb _ _ fits)
+
+pub training-fits : TrainingFits
+training-fits B bytes ok h few = let fits : length bytes ≤ capacityBytes B 576 = omega (arith, room-enough B ok h) in all-held B bytes fits
 
 -- ---- the best of the recording is the definition's
 
@@ -120,15 +123,13 @@ pub started-free : (B words : ℕ) → validSize B ≡ true → startedOf B word
 unfolding startedOf
 started-free B words ok = rw ok
 
-pub found-best : (B k : ℕ) (ws bytes answers : List ℕ) (sampler : Sampler) (ws′ : List ℕ) → Session B ws (bytes ∷ []) answers sampler ws′
-    → length ws ≡ 576 → (bins order : List ℕ) → Trainable B k bytes (length bins) (length order)
-    → (r : Searched) (bins′ order′ : List ℕ) → DirectSearch sampler ws′ k bins order r bins′ order′ → Trained B k bytes (r .finding) order′
-found-best B k ws bytes answers sampler ws′ session size bins order t r bins′ order′ search =
+pub training-found : TrainingFound
+training-found B k ws bytes answers sampler ws′ session size bins order t r bins′ order′ search =
     let claim = claims B ws (bytes ∷ []) answers sampler ws′ session .direct k bins order r bins′ order′ search in
     let v = valid-facts B (t .valid) in
     let high : k ≤ 20 = omega arith in
     let chosen : k ≤ B = omega arith in
     let free : r .refusal ≡ 0 = claim .succeeds (t .some) high chosen (t .room .0) (t .room .1) in
-    let fits : length bytes ≤ capacityBytes B 576 = omega (arith, room-enough B (t .valid) (t .block)) in
-    let held : recording B (length ws) (bytes ∷ []) ≡ bytes = ap (λ (m : ℕ). recording B m (bytes ∷ [])) size ∙ all-held B bytes fits in
-    trained B bytes k (r .finding) bins′ order′ (subst (λ (h : List ℕ). Best B h k (r .finding) bins′ order′) held (claim .best free))
+    let held : recording B (length ws) (bytes ∷ []) ≡ bytes =
+    ap (λ (m : ℕ). recording B m (bytes ∷ [])) size ∙ training-fits B bytes (t .valid) (t .block) (t .few) in
+    (free, trained B bytes k (r .finding) bins′ order′ (subst (λ (h : List ℕ). Best B h k (r .finding) bins′ order′) held (claim .best free)))

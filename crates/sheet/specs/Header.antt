@@ -48,7 +48,11 @@ unfoldable pub inputRefusal : List ℕ → ℕ
 inputRefusal s =
     cond (wellFormed s) (cond (leb (blockSizeOf s) 64) (cond (leb (widthOf s) 8) (cond (leb (length (rawOf s)) 8192) 0 15) 15) 15) 15
 
--- Theorem: 6 columns are a field just where some number below 1,000,000 stands there right-justified, and that number is then read.
+-- What a field is to be: 6 columns are one just where some number below 1,000,000 stands there right-justified, and that number is then read.
 pub record Fields (s : List ℕ) (at : ℕ) : Type 0 where
   pub written : isField s at ≡ true → take 6 (drop at s) ≡ columns 6 (fieldAt s at)
   pub read : (n : ℕ) → n < 1000000 → take 6 (drop at s) ≡ columns 6 n → (isField s at ≡ true) × (fieldAt s at ≡ n)
+
+-- Theorem: so for all bytes and every place.
+abbrev pub FieldsAre : Type 0
+FieldsAre = (s : List ℕ) (at : ℕ) → Fields s at

@@ -1,10 +1,12 @@
 -- A finding of the training bytes, judged on the testing bytes.
+use mathlib.Core.Path.{_≡_}
 use mathlib.Core.List.{List, [], _∷_}
 use Prim.Native.Nat.{ℕ, _≤_}
 use lib.Ieee.{toBits, binary64}
 use lib.ListN.{length}
 use Rattle.counting.specs.Recording.{blocksIn}
-use Rattle.judging.specs.Evaluation.{positiveIn, zIn}
+use Rattle.judging.specs.Evaluation.{positiveIn, zIn, evaluatedOf}
+use Rattle.judging.specs.declared.evaluation.Score.the-variants.{Z}
 use Rattle.sheet.specs.Training.{chosenOf, trainedOf, trainedOrder, Trainable}
 use Rattle.sheet.specs.Lines.{threeLines}
 use Rattle.sheet.specs.declared.judgement.Judged.{Judged}
@@ -21,6 +23,14 @@ pub record Judgeable (B k : ℕ) (training testing : List ℕ) : Type 0 where
   pub trainable : Trainable B k training 256 256
   pub some : 1 ≤ blocksIn B testing
   pub few : length testing ≤ 8192
+
+-- Theorem: the evaluation of such a finding is not refused, and there is a sample.
+abbrev pub FindingEvaluated : Type 0
+FindingEvaluated =
+    (B k : ℕ) (training testing : List ℕ) → Judgeable B k training testing
+    → let f = trainedOf B k training in
+    let order = trainedOrder B k training in
+    evaluatedOf f order testing 256 ≡ record { refusal = 0; positive = positiveIn f order testing; score = Z (zIn f order testing) }
 
 -- the sheet's numbers: B, k, training blocks, testing blocks, division, positive; the bits; the patterns of both z
 unfoldable pub linesOf : ℕ → ℕ → List ℕ → List ℕ → List ℕ

@@ -1,7 +1,8 @@
 -- The sheet: the bytes printed for an input.
 use mathlib.Core.Bool.{true}
 use mathlib.Core.List.{List, [], _∷_}
-use Prim.Native.Nat.{ℕ, zero, suc}
+use Prim.Native.Nat.{ℕ, zero, suc, _≤_}
+use lib.ListN.{length}
 use Rattle.judging.specs.Split.{firstPart, secondPart}
 use Rattle.sheet.specs.Columns.{line}
 use Rattle.sheet.specs.Header.{blockSizeOf, widthOf, rawOf}
@@ -23,3 +24,7 @@ sheetWith (suc r) s = line 8 (suc r ∷ [])
 -- the sheet of an input
 unfoldable pub sheetOf : List ℕ → List ℕ
 sheetOf s = sheetWith (sheetRefusal s) s
+
+-- Theorem: no sheet is empty, and 155 bytes hold every one.
+abbrev pub SheetsFit : Type 0
+SheetsFit = (s : List ℕ) → (1 ≤ length (sheetOf s)) × (length (sheetOf s) ≤ 155)

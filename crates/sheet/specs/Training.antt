@@ -1,15 +1,19 @@
 -- The search of the training bytes.
 use mathlib.Core.Path.{_≡_}
 use mathlib.Core.Bool.{true}
-use mathlib.Core.List.{List}
+use mathlib.Core.List.{List, [], _∷_}
 use Prim.Native.Nat.{ℕ, _^_, _≤_}
 use lib.ListN.{length, take}
 use Rattle.counting.specs.Block.{validSize}
-use Rattle.counting.specs.Recording.{blocksIn, recordedBit}
+use Rattle.counting.specs.Recording.{recording, blocksIn, recordedBit}
 use Rattle.counting.specs.Sample.{countsOf}
+use Rattle.counting.specs.declared.sampling.Sampler.{Sampler}
 use Rattle.ranking.specs.Order.{orderOf}
+use Rattle.searching.specs.Claim.{Session}
 use Rattle.searching.specs.Finding.{winnerOf, findingOf}
+use Rattle.searching.specs.Search.{DirectSearch}
 use Rattle.searching.specs.declared.finding.Finding.{Finding}
+use Rattle.searching.specs.declared.finding.Searched.{Searched}
 
 -- the best k-subset of the recording that holds the bytes
 unfoldable pub chosenOf : ℕ → ℕ → List ℕ → List ℕ
@@ -36,3 +40,14 @@ pub record Trainable (B k : ℕ) (bytes : List ℕ) (bins order : ℕ) : Type 0 
 pub record Trained (B k : ℕ) (bytes : List ℕ) (f : Finding) (order : List ℕ) : Type 0 where
   pub found : f ≡ trainedOf B k bytes
   pub ordered : take (2 ^ k) order ≡ trainedOrder B k bytes
+
+-- Theorem: the program's 576 words hold all training bytes.
+abbrev pub TrainingFits : Type 0
+TrainingFits = (B : ℕ) (bytes : List ℕ) → validSize B ≡ true → B ≤ 64 → length bytes ≤ 4096 → recording B 576 (bytes ∷ []) ≡ bytes
+
+-- Theorem: after a start in these words and a feed of the bytes, the direct search is not refused, and what it finds is that.
+abbrev pub TrainingFound : Type 0
+TrainingFound =
+    (B k : ℕ) (ws bytes answers : List ℕ) (sampler : Sampler) (ws′ : List ℕ) → Session B ws (bytes ∷ []) answers sampler ws′
+    → length ws ≡ 576 → (bins order : List ℕ) → Trainable B k bytes (length bins) (length order)
+    → (r : Searched) (bins′ order′ : List ℕ) → DirectSearch sampler ws′ k bins order r bins′ order′ → (r .refusal ≡ 0) × Trained B k bytes (r .finding) order′

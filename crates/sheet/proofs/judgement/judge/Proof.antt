@@ -2,19 +2,16 @@
 use borrow.Author.Needs.{needs}
 use mathlib.Core.Path.{_≡_, sym, ap, _∙_}
 use mathlib.Core.List.{List}
-use Prim.Native.Nat.{ℕ, _/_, _≤_}
-use native.Mathlib.Nat.{div-le-self}
+use Prim.Native.Nat.{ℕ, _≤_}
 use native.Mathlib.Omega.{arith}
 use lib.ListN.{length, take}
 use lib.Seq.{length-take-le}
-use Rattle.counting.specs.Recording.{blocksIn}
-use Rattle.counting.proofs.Accepted.{valid-facts}
 use Rattle.judging.specs.Evaluation.{evaluatedOf, positiveIn, zIn, scoreNumber}
 use Rattle.judging.specs.declared.evaluation.Evaluated.{Evaluated}
 use Rattle.judging.specs.declared.evaluation.Score.the-variants.{Z}
 use Rattle.sheet.specs.Training.{trainedOf, trainedOrder}
 use Rattle.sheet.specs.Judgement.{judgedOf}
-use Rattle.sheet.proofs.Evaluating.{evaluated-is}
+use Rattle.sheet.proofs.Accepting.{finding-evaluated}
 use Rattle.sheet.proofs.judgement.judge.Statement.{statement}
 use Rattle.sheet.proofs.judgement.judge.Tie as tie
 
@@ -76,20 +73,15 @@ returns c =
     let counted = c .before .before .before .before .before .bin-count in
     let a = entry-of d .args in
     let g = entry-of d .pre in
-    let t = g .trainable in
     let f = trainedOf (a .block-size) (a .k) (a .training .now) in
     let order = trainedOrder (a .block-size) (a .k) (a .training .now) in
     let testing = a .testing .now in
-    let v = valid-facts (a .block-size) (t .valid) in
-    let width : a .k ≤ 20 = omega arith in
-    let fits : a .k ≤ a .block-size = omega arith in
-    let few : blocksIn (a .block-size) testing ≤ 16777216 = omega (arith, div-le-self (length testing) (a .block-size / 8), g .few) in
     let left : List ℕ = trained .last .1 .1 .1 .1 .0 in
     let ordered : take (counted .result) left ≡ order = ap (λ (m : ℕ). take m left) (counted .ensures) ∙ trained .ensures .ordered in
     let told : tried .result ≡ evaluatedOf (trained .result) (take (counted .result) left) testing (length (trained .last .1 .1 .1 .0)) = tried .ensures .0 in
     let is : tried .result ≡ record { refusal = 0; positive = positiveIn f order testing; score = Z (zIn f order testing) } =
     told ∙ (λ i. evaluatedOf (trained .ensures .found i) (ordered i) testing (bins-long d i))
-    ∙ evaluated-is (a .block-size) (a .k) (a .training .now) (t .valid) (t .some) width fits testing 256 (g .some) few (t .room .0) in
+    ∙ finding-evaluated (a .block-size) (a .k) (a .training .now) testing g in
     let z : c .number-of .result ≡ zIn f order testing = c .number-of .ensures ∙ ap (λ (e : Evaluated). scoreNumber (e .score)) is in
     λ i. record { finding = trained .ensures .found i; positive = is i .positive; z = z i }
 

@@ -6,7 +6,7 @@ use Prim.Native.Nat.{ℕ}
 use lib.ListN.{length}
 use Rattle.counting.specs.declared.sampling.Started.{Started}
 use Rattle.searching.specs.Claim.{Session, fresh, next}
-use Rattle.sheet.proofs.Searched.{started-free, found-best}
+use Rattle.sheet.proofs.Searched.{started-free, training-found}
 use Rattle.sheet.proofs.training.train.Statement.{statement}
 use Rattle.sheet.proofs.training.train.Tie as tie
 
@@ -49,9 +49,9 @@ returns c =
     let session : Session (a .block-size) ws (a .training .now ∷ []) (fed .feed .result .refusal ∷ []) (fed .feed .result .sampler) (fed .feed .last .1 .0) =
     next (fresh (begun .start .result) (begun .start .last .1 .0) (begun .start .ensures .0) (begun .start .ensures .1) first)
     (a .training .now) (fed .feed .result) (fed .feed .last .1 .0) (fed .feed .ensures .0) (fed .feed .ensures .1) in
-    found-best (a .block-size) (a .k) ws (a .training .now) (fed .feed .result .refusal ∷ []) (fed .feed .result .sampler) (fed .feed .last .1 .0) session
+    training-found (a .block-size) (a .k) ws (a .training .now) (fed .feed .result .refusal ∷ []) (fed .feed .result .sampler) (fed .feed .last .1 .0) session
     (sym (begun .before .before .room .ensures)) (a .bins .now) (a .order .now) (entry .pre)
-    (search .brute-force-threads .result) (search .brute-force-threads .last .1 .1 .1 .0) (search .brute-force-threads .last .1 .1 .1 .1 .0) (search .brute-force-threads .ensures)
+    (search .brute-force-threads .result) (search .brute-force-threads .last .1 .1 .1 .0) (search .brute-force-threads .last .1 .1 .1 .1 .0) (search .brute-force-threads .ensures) .1
 
 pub train-spec : {M : Type 1} → statement M
 train-spec =
