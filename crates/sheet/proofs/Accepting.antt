@@ -2,6 +2,7 @@
 use mathlib.Core.Path.{_≡_, refl, sym, ap, _∙_}
 use mathlib.Core.Bool.{Bool, true, false, cond}
 use mathlib.Core.List.{List, [], _∷_}
+use mathlib.Core.Logic.{_⊎_, inl, inr}
 use Prim.Native.Nat.{ℕ, zero, suc, _+_, _-_, _*_, _/_, _^_, _≤_, _<_}
 use native.Mathlib.Nat.{mul-le-mul-right, mul-div-cancel, pow-le-pow-right, div-le-self}
 use native.Mathlib.Omega.{arith}
@@ -152,16 +153,17 @@ unfolding sheetOf
 sheet-refused s zero e h = absurd (h refl)
 sheet-refused s (suc r) e h = ap (λ (q : ℕ). sheetWith q s) (sym e)
 
-pub sheets-fit : SheetsFit
-sheets-fit s = by-refusal (sheetRefusal s) refl
+-- a refusal's line, or the three lines
+sheet-length : (s : List ℕ) → (length (sheetOf s) ≡ 9) ⊎ ((length (sheetOf s) ≡ 91 + 8 * widthOf s) × (widthOf s ≤ 8))
+sheet-length s = by-refusal (sheetRefusal s) refl
   where
-    by-refusal : (r : ℕ) → sheetRefusal s ≡ r → (1 ≤ length (sheetOf s)) × (length (sheetOf s) ≤ 155)
+    by-refusal : (r : ℕ) → sheetRefusal s ≡ r → (length (sheetOf s) ≡ 9) ⊎ ((length (sheetOf s) ≡ 91 + 8 * widthOf s) × (widthOf s ≤ 8))
     by-refusal zero e =
         let a = accepted s e in
-        let n : length (sheetOf s) ≡ 91 + 8 * widthOf s =
-        ap length (sheet-lines s e) ∙ lines-length (blockSizeOf s) (widthOf s) (trainingOf s) (testingOf s) (judgeable s a) in
-        (omega arith, omega (arith, a .taken .width))
+        inr (ap length (sheet-lines s e) ∙ lines-length (blockSizeOf s) (widthOf s) (trainingOf s) (testingOf s) (judgeable s a), a .taken .width)
     by-refusal (suc r) e =
         let some : suc r ≡ 0 → ⊥ = λ z. omega arith in
-        let n : length (sheetOf s) ≡ 9 = ap length (sheet-refused s (suc r) (sym e) some) ∙ length-line 8 (suc r ∷ []) in
-        (omega arith, omega arith)
+        inl (ap length (sheet-refused s (suc r) (sym e) some) ∙ length-line 8 (suc r ∷ []))
+
+pub sheets-fit : SheetsFit
+sheets-fit s = elim (sheet-length s) [ inl n ↦ (omega arith, omega arith) | inr (n, few) ↦ (omega arith, omega arith) ]
