@@ -22,10 +22,9 @@ use Rattle.subsets.proofs.Testing.{accepted}
 use Rattle.searching.specs.Refusal.{orElse}
 use Rattle.searching.specs.declared.finding.Finding.{Finding}
 use Rattle.searching.proofs.Refusing.{or-first, neither}
-use Rattle.judging.specs.Check.{chosen, limitRefusal, lengthRefusal, shapeRefusal, scratchRefusal, divisionRefusal, orderRefusal, earlyRefusal, checkRefusal, checkedScratch}
-use Rattle.judging.specs.Evaluation as evaluation
+use Rattle.judging.specs.Check.{chosen, limitRefusal, lengthRefusal, shapeRefusal, scratchRefusal, divisionRefusal, orderRefusal, earlyCheckRefusal, checkRefusal, checkedScratch}
 use Rattle.judging.specs.Permutation.{eachOnce}
-use Rattle.judging.specs.Evaluation.{blocksOf, countsIn, blocksRefusal, evaluationRefusal, evaluatedOf, scratchAfter, evaluatedScratch}
+use Rattle.judging.specs.Evaluation.{testingBlocks, countsIn, blocksRefusal, earlyEvaluationRefusal, evaluationRefusal, evaluatedOf, scratchAfter, evaluatedScratch}
 use Rattle.judging.specs.declared.evaluation.Evaluated.{Evaluated}
 use Rattle.judging.specs.declared.evaluation.Score.the-variants.{NoSample}
 use Rattle.judging.proofs.Checking.{Limits, limits, ordered, as-lent}
@@ -116,20 +115,20 @@ module _ (f : Finding) (r : ℕ) (is : r ≡ subsetRefusal f) (some : r ≡ 0 �
 
   pub check-refused :
       (order scratch : List ℕ) → (r ≡ checkRefusal f order (length scratch)) × (scratch ≡ checkedScratch f (length order) scratch)
-  unfolding checkRefusal checkedScratch earlyRefusal
+  unfolding checkRefusal checkedScratch earlyCheckRefusal
   check-refused order scratch =
-      let e : r ≡ earlyRefusal f (length order) (length scratch) = early-is (length order) (scratchRefusal (f .width) (length scratch)) in
-      let h : earlyRefusal f (length order) (length scratch) ≡ 0 → ⊥ = λ z. some (e ∙ z) in
+      let e : r ≡ earlyCheckRefusal f (length order) (length scratch) = early-is (length order) (scratchRefusal (f .width) (length scratch)) in
+      let h : earlyCheckRefusal f (length order) (length scratch) ≡ 0 → ⊥ = λ z. some (e ∙ z) in
       (e ∙ or-first _ _ h, as-lent _ (f .width) scratch h)
 
   pub evaluation-refused :
       (order bytes scratch : List ℕ) (a : Evaluated) → a ≡ record { refusal = r; positive = 0; score = NoSample }
       → (a ≡ evaluatedOf f order bytes (length scratch)) × (scratch ≡ evaluatedScratch f order bytes scratch)
-  unfolding evaluatedOf evaluatedScratch evaluationRefusal evaluation.earlyRefusal
+  unfolding evaluatedOf evaluatedScratch evaluationRefusal earlyEvaluationRefusal
   evaluation-refused order bytes scratch a answer =
-      let n = blocksOf f bytes in
-      let e : r ≡ evaluation.earlyRefusal f (length order) n (length scratch) = early-is (length order) (orElse (blocksRefusal n) (scratchRefusal (f .width) (length scratch))) in
-      let h : evaluation.earlyRefusal f (length order) n (length scratch) ≡ 0 → ⊥ = λ z. some (e ∙ z) in
+      let n = testingBlocks f bytes in
+      let e : r ≡ earlyEvaluationRefusal f (length order) n (length scratch) = early-is (length order) (orElse (blocksRefusal n) (scratchRefusal (f .width) (length scratch))) in
+      let h : earlyEvaluationRefusal f (length order) n (length scratch) ≡ 0 → ⊥ = λ z. some (e ∙ z) in
       let whole = e ∙ or-first _ (orderRefusal (f .width) (f .division) order) h in (
         answer ∙ ap (λ (x : ℕ). record { refusal = x; positive = 0; score = NoSample }) whole ∙ answer-refused _ _ _ _ (λ z. some (whole ∙ z)),
         scratch-lent _ _ (f .width) _ scratch h,
@@ -163,16 +162,16 @@ module _ (f : Finding) (w : f .width ≤ 20) (above : 4294967295 < f .division) 
   order-refused order e = omega (arith, bins, ordered (f .width) (f .division) order e .below)
 
   check-above : (order : List ℕ) (scratch : ℕ) → checkRefusal (narrowed f) order scratch ≡ checkRefusal f order scratch
-  unfolding checkRefusal earlyRefusal shapeRefusal limitRefusal
-  check-above order scratch = ap (orElse (earlyRefusal f (length order) scratch)) (order-alike order)
+  unfolding checkRefusal earlyCheckRefusal shapeRefusal limitRefusal
+  check-above order scratch = ap (orElse (earlyCheckRefusal f (length order) scratch)) (order-alike order)
 
   evaluation-above : (order bytes : List ℕ) (scratch : ℕ) → evaluationRefusal (narrowed f) order bytes scratch ≡ evaluationRefusal f order bytes scratch
-  unfolding evaluationRefusal evaluation.earlyRefusal shapeRefusal limitRefusal
-  evaluation-above order bytes scratch = ap (orElse (evaluation.earlyRefusal f (length order) (blocksOf f bytes) scratch)) (order-alike order)
+  unfolding evaluationRefusal earlyEvaluationRefusal shapeRefusal limitRefusal
+  evaluation-above order bytes scratch = ap (orElse (earlyEvaluationRefusal f (length order) (testingBlocks f bytes) scratch)) (order-alike order)
 
   some-above : (order bytes : List ℕ) (scratch : ℕ) → evaluationRefusal f order bytes scratch ≡ 0 → ⊥
   unfolding evaluationRefusal
-  some-above order bytes scratch e = order-refused order (neither (evaluation.earlyRefusal f (length order) (blocksOf f bytes) scratch) _ e .1)
+  some-above order bytes scratch e = order-refused order (neither (earlyEvaluationRefusal f (length order) (testingBlocks f bytes) scratch) _ e .1)
 
   evaluated-above : (order bytes : List ℕ) (scratch : ℕ) → evaluatedOf (narrowed f) order bytes scratch ≡ evaluatedOf f order bytes scratch
   unfolding evaluatedOf
@@ -182,9 +181,9 @@ module _ (f : Finding) (w : f .width ≤ 20) (above : 4294967295 < f .division) 
       sym (answer-refused _ _ _ _ (λ z. some (sym r ∙ z))) ∙ ap (λ (x : ℕ). record { refusal = x; positive = 0; score = NoSample }) r ∙ answer-refused _ _ _ _ some
 
   scratch-above : (order bytes scratch : List ℕ) → evaluatedScratch (narrowed f) order bytes scratch ≡ evaluatedScratch f order bytes scratch
-  unfolding evaluatedScratch evaluation.earlyRefusal shapeRefusal limitRefusal
+  unfolding evaluatedScratch earlyEvaluationRefusal shapeRefusal limitRefusal
   scratch-above order bytes scratch =
-      ap (λ (x : ℕ). scratchAfter (evaluation.earlyRefusal f (length order) (blocksOf f bytes) (length scratch)) x (countsIn f bytes) (f .width) scratch) (order-alike order)
+      ap (λ (x : ℕ). scratchAfter (earlyEvaluationRefusal f (length order) (testingBlocks f bytes) (length scratch)) x (countsIn f bytes) (f .width) scratch) (order-alike order)
 
 module _ (f : Finding) (w : f .width ≤ 20) where
   pub check-alike : (order : List ℕ) (scratch : ℕ) → checkRefusal (narrowed f) order scratch ≡ checkRefusal f order scratch
@@ -195,7 +194,7 @@ module _ (f : Finding) (w : f .width ≤ 20) where
       by-size (no h) = check-above f w (omega arith) order scratch
 
   pub cleared-alike : (order : ℕ) (scratch : List ℕ) → checkedScratch (narrowed f) order scratch ≡ checkedScratch f order scratch
-  unfolding checkedScratch earlyRefusal shapeRefusal limitRefusal
+  unfolding checkedScratch earlyCheckRefusal shapeRefusal limitRefusal
   cleared-alike order scratch = refl
 
   pub evaluated-alike : (order bytes : List ℕ) (scratch : ℕ) → evaluatedOf (narrowed f) order bytes scratch ≡ evaluatedOf f order bytes scratch

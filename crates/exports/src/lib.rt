@@ -27,9 +27,9 @@ use ranking::ranking::from_bins;
 use searching::search::brute_force;
 use searching::search::brute_force_threads;
 
-pub mod findings;
-pub mod records;
-pub mod single;
+mod findings;
+mod records;
+mod single;
 
 // start: clears the words and writes a fresh sampler. Refusals 25, 1.
 #[no_mangle]
