@@ -5,7 +5,7 @@ use crate::case::{same, Checked};
 use crate::ours;
 use crate::recordings::{numbers, LENT};
 use answers::{bottomup, choose, evaluate_histogram, recording, Draws};
-use std::{fs, path::PathBuf, process::exit, thread, time::Instant};
+use std::{fs, path::PathBuf, process::exit, time::Instant};
 
 const BLOCK_SIZE: usize = 24;
 const BLOCKS: usize = 43;
@@ -27,14 +27,12 @@ fn held() -> Vec<u8> {
 pub fn run(width: &str, side: Option<&str>) {
     let k: usize = width.parse().ok().filter(|k| (17..=20).contains(k)).expect("the width is 17 to 20");
     println!("wide: B {BLOCK_SIZE}, {BLOCKS} blocks of seed {SEED}, width {k}: {} subsets of {} bins", choose(BLOCK_SIZE, k), 1_usize << k);
-    let reference = thread::spawn(move || reference(k));
     if side == Some("reference") {
-        reference.join().unwrap();
+        reference(k);
         return;
     }
     let ours = ours(k);
-    let reference = reference.join().unwrap();
-    if let Err(what) = compare(&ours, &reference) {
+    if let Err(what) = compare(&ours, &reference(k)) {
         println!("wide: width {k} differs: {what}");
         exit(1);
     }
