@@ -15,6 +15,8 @@ use Rattle.judging.specs.Check.{checkRefusal, checkedScratch}
 use Rattle.judging.specs.Evaluation.{evaluatedOf, evaluatedScratch}
 use Rattle.judging.specs.Plan.{planOf}
 use Rattle.judging.specs.Split.{splitRefusal, firstPart, secondPart}
+use Rattle.exchange.specs.Reader.{readText}
+use Rattle.exchange.specs.Exchange.{Writes, Reads, readingOf}
 use Rattle.exports.specs.Records.{samplerNumbers, samplerOf, findingNumbers, findingRead, evaluatedNumbers, planNumbers, written, shortRecord}
 
 -- `start`, its sampler written to the slice
@@ -86,6 +88,19 @@ pub record EvaluateCall (finding order bytes scratch evaluated : List ℕ) (r : 
       × (scratch′ ≡ evaluatedScratch (findingRead finding) order bytes scratch)
       × (evaluated′ ≡ written (evaluatedNumbers (evaluatedOf (findingRead finding) order bytes (length scratch))) evaluated)
   pub short : (length finding < 24) ⊎ (length evaluated < 3) → (r ≡ shortRecord) × (scratch′ ≡ scratch) × (evaluated′ ≡ evaluated)
+
+-- `write_finding`, the finding read from the slice, and the length of the text written to a number
+pub record WriteCall (finding order scratch out : List ℕ) (size r : ℕ) (scratch′ out′ : List ℕ) (size′ : ℕ) : Type 0 where
+  pub made : 24 ≤ length finding → Writes (findingRead finding) order scratch out (record { refusal = r; length = size′ }) scratch′ out′
+  pub short : length finding < 24 → (r ≡ shortRecord) × (scratch′ ≡ scratch) × (out′ ≡ out) × (size′ ≡ size)
+
+-- `read_finding`, the finding written to the slice
+pub record ReadCall (text order scratch finding : List ℕ) (r : ℕ) (order′ scratch′ finding′ : List ℕ) : Type 0 where
+  pub made :
+      24 ≤ length finding
+      → let a = readingOf (readText text) (length order) (length scratch) in
+      Reads text order scratch a order′ scratch′ × (r ≡ a .refusal) × (finding′ ≡ written (findingNumbers (a .finding)) finding)
+  pub short : length finding < 24 → (r ≡ shortRecord) × (order′ ≡ order) × (scratch′ ≡ scratch) × (finding′ ≡ finding)
 
 -- the split: the lengths of both parts of the raw bytes, which lie one after the other from the first byte on
 pub record SplitCall (raw : List ℕ) (B : ℕ) (training : Bool) (lengths : List ℕ) (r : ℕ) (lengths′ : List ℕ) : Type 0 where

@@ -9,9 +9,12 @@ ghost use Rattle.subsets.specs.Subsets.{padded};
 ghost use Rattle.judging.specs.Check.{checkRefusal, checkedScratch};
 ghost use Rattle.judging.specs.Evaluation.{evaluatedOf, evaluatedScratch};
 ghost use Rattle.judging.specs.declared.evaluation.Score.the-variants.{NoSample};
+ghost use Rattle.exchange.specs.Exchange.{Writes};
 ghost use Rattle.exports.specs.Records.{findingRead};
 ghost use Rattle.exports.specs.Findings.{subsetRefusal, narrowed, Readable};
 use counting::block::valid_block_size;
+use exchange::writer::Written;
+use exchange::writer::write_finding;
 use judging::check::validate;
 use judging::evaluation::Evaluated;
 use judging::evaluation::Score;
@@ -43,6 +46,18 @@ pub fn evaluate_lent(numbers: &[u64], order: &[u32], bytes: &[u8], scratch: &mut
         return refused(refusal);
     }
     evaluate_histogram(read_finding(numbers), order, bytes, scratch)
+}
+
+// The finding whose numbers stand first, written with its order as text. Refusals 1, 2, 9, 10, 11, 7, 13, 14, 17.
+pub fn write_lent(numbers: &[u64], order: &[u32], scratch: &mut [u32], out: &mut [u8]) -> Written
+    requires { ⌜ 24 ≤ length (now numbers) ⌝ }
+    ensures { λ r. ⌜ Writes (findingRead (now (numbers .entry))) (now (order .entry)) (now (scratch .entry)) (now (out .entry)) r (now (scratch .exit)) (now (out .exit)) ⌝ }
+{
+    let refusal = subset_refusal(numbers);
+    if refusal != 0 {
+        return Written { refusal, length: 0 };
+    }
+    write_finding(read_finding(numbers), order, scratch, out)
 }
 
 // A refusal, no positive block and no sample.

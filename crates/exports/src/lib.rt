@@ -3,10 +3,12 @@
 ghost use mathlib.Core.Path.{_≡_};
 ghost use lib.ListN.{length};
 ghost use Rattle.subsets.specs.Rank.{rankedOf};
-ghost use Rattle.exports.specs.Calls.{StartCall, FeedCall, DirectCall, LayeredCall, CheckCall, EvaluateCall, SplitCall, PlanCall};
+ghost use Rattle.exchange.specs.Length.{longestText};
+ghost use Rattle.exports.specs.Calls.{StartCall, FeedCall, DirectCall, LayeredCall, CheckCall, EvaluateCall, WriteCall, ReadCall, SplitCall, PlanCall};
 ghost use Rattle.exports.specs.Single.{RankingCall};
 use crate::findings::evaluate_lent;
 use crate::findings::validate_lent;
+use crate::findings::write_lent;
 use crate::records::pattern;
 use crate::records::rank_of;
 use crate::records::read_sampler;
@@ -18,6 +20,8 @@ use crate::single::ranking_refusal;
 use crate::single::total_of;
 use counting::sampling::feed;
 use counting::sampling::start;
+use exchange::reader::read_finding;
+use exchange::writer::longest_text;
 use judging::plan::configurations;
 use judging::split::first_part;
 use judging::split::second_part;
@@ -168,6 +172,51 @@ pub extern "C" fn jimrawel_evaluate_histogram(
     let answer = evaluate_lent(finding, order, bytes, scratch);
     write_evaluated(answer, evaluated);
     answer.refusal
+}
+
+// Writes a finding and its bin order as text. Refusals 25, 1, 2, 9, 10, 11, 7, 13, 14, 17.
+#[no_mangle]
+pub extern "C" fn jimrawel_write_finding(
+    finding: &[u64],
+    order: &[u32],
+    scratch: &mut [u32],
+    out: &mut [u8],
+    length: &mut usize,
+) -> u32
+    ensures { λ r. ⌜ WriteCall (now (finding .entry)) (now (order .entry)) (now (scratch .entry)) (now (out .entry)) (now (length .entry)) r (now (scratch .exit)) (now (out .exit)) (now (length .exit)) ⌝ }
+{
+    if finding.len() < 24 {
+        return 25;
+    }
+    let written = write_lent(finding, order, scratch, out);
+    *length = written.length;
+    written.refusal
+}
+
+// Reads a finding and its bin order from a text. Refusals 25, 16, 17, 1, 2, 9, 10, 11, 7, 13, 14.
+#[no_mangle]
+pub extern "C" fn jimrawel_read_finding(
+    text: &[u8],
+    order: &mut [u32],
+    scratch: &mut [u32],
+    finding: &mut [u64],
+) -> u32
+    ensures { λ r. ⌜ ReadCall (now (text .entry)) (now (order .entry)) (now (scratch .entry)) (now (finding .entry)) r (now (order .exit)) (now (scratch .exit)) (now (finding .exit)) ⌝ }
+{
+    if finding.len() < 24 {
+        return 25;
+    }
+    let reading = read_finding(text, order, scratch);
+    write_finding(reading.finding, finding);
+    reading.refusal
+}
+
+// The most bytes that a text of a finding of k bits has.
+#[no_mangle]
+pub extern "C" fn jimrawel_longest_text(k: usize) -> usize
+    ensures { λ r. ⌜ r ≡ longestText k ⌝ }
+{
+    longest_text(k)
 }
 
 // The lengths of the two parts of the raw bytes. Refusals 25, 1, 8.

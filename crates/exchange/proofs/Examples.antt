@@ -1,0 +1,51 @@
+-- The examples, by computation.
+use mathlib.Core.Path.{refl}
+use Rattle.exchange.specs.Grammar.{isSpace, isDigit, isExp}
+use Rattle.exchange.specs.Reader.{
+  skip,
+  readExactly,
+  readToken,
+  readDigits,
+  readWhole,
+  skipDigits,
+  skipMinus,
+  skipSign,
+  skipFraction,
+  skipExponent,
+  skipNumber,
+  skipScore,
+  readWord,
+  readTurns,
+  readEntry,
+  readArray,
+  readName,
+  readKey,
+  readValue,
+  readMember,
+  whole,
+  readText,
+}
+use Rattle.exchange.specs.Writer.{digitsOf, decimal, behind, listed, textOf}
+use Rattle.exchange.specs.Examples.{Examples}
+
+pub examples : Examples
+unfolding isSpace isDigit isExp skip readExactly readToken readDigits readWhole skipDigits skipMinus skipSign skipFraction skipExponent skipNumber skipScore readWord readTurns readEntry readArray readName readKey readValue readMember whole readText digitsOf decimal behind listed textOf
+examples =
+    record {
+      written = refl;
+      spaced = refl;
+      empties = refl;
+      missing = refl;
+      twice = refl;
+      scores = refl;
+      unknown = refl;
+      escaped = refl;
+      zeros = refl;
+      signed = refl;
+      fraction = refl;
+      large = refl;
+      point = refl;
+      comma = refl;
+      behind = refl;
+      nothing = refl;
+    }

@@ -1,0 +1,23 @@
+-- Laws of the text, the reader and the writer, and the theorems.
+pub mod Tokens
+pub mod Numbers
+pub mod Objects
+pub mod Following
+pub mod Getting
+pub mod Stepping
+pub mod Turning
+pub mod Storing
+pub mod Scoring
+pub mod Naming
+pub mod Collecting
+pub mod Completing
+pub mod Receiving
+pub mod Written
+pub mod Buffers
+pub mod Figures
+pub mod Commas
+pub mod Pieces
+pub mod Acceptance
+pub mod Bounds
+pub mod Exchanging
+pub mod Examples
