@@ -87,6 +87,14 @@ writes-refused f order scratch out r scratch′ e h c =
       checked = c;
     }
 
+pub refused-answer : (f : Finding) (order scratch out : List ℕ) (w : Written) (scratch′ out′ : List ℕ) (r : ℕ) → Writes f order scratch out w scratch′ out′
+    → r ≡ writeRefusal f order (length scratch) (length out) → (r ≡ 0 → ⊥) → (w ≡ record { refusal = r; length = 0 }) × (out′ ≡ out)
+refused-answer f order scratch out w scratch′ out′ r W e h =
+    let s = findingText f order in (
+      W .answered ∙ ap (λ (q : ℕ). writtenWith q s) (sym e) ∙ sym (refused-with r s h),
+      W .output ∙ ap (λ (q : ℕ). outputAfter q s out) (sym e) ∙ sym (as-lent r s out h),
+    )
+
 pub refused-first : (f : Finding) (order : List ℕ) (scratch out r : ℕ) → r ≡ checkRefusal f order scratch → (r ≡ 0 → ⊥) → r ≡ writeRefusal f order scratch out
 unfolding writeRefusal
 refused-first f order scratch out r e h = e ∙ or-first (checkRefusal f order scratch) _ (λ z. h (e ∙ z))

@@ -17,8 +17,11 @@ use Rattle.judging.specs.Plan.{planOf}
 use Rattle.judging.specs.Split.{splitRefusal, firstPart, secondPart}
 use Rattle.judging.specs.declared.evaluation.Evaluated.{Evaluated}
 use Rattle.judging.specs.declared.plan.Plan.{Plan}
+use Rattle.exchange.specs.Exchange.{Writes, Reads}
+use Rattle.exchange.specs.declared.reader.Reading.{Reading}
+use Rattle.exchange.specs.declared.writer.Written.{Written}
 use Rattle.exports.specs.Records.{samplerNumbers, samplerOf, findingNumbers, findingRead, evaluatedNumbers, planNumbers, written}
-use Rattle.exports.specs.Calls.{StartCall, FeedCall, Answered, DirectCall, LayeredCall, EvaluateCall, SplitCall, PlanCall}
+use Rattle.exports.specs.Calls.{StartCall, FeedCall, Answered, DirectCall, LayeredCall, EvaluateCall, WriteCall, ReadCall, SplitCall, PlanCall}
 
 -- one of two slices is too short, where both are long enough
 neither : {a b m n : ℕ} → m ≤ a → n ≤ b → (a < m) ⊎ (b < n) → ⊥
@@ -180,3 +183,34 @@ split-made raw B training lengths first second r lengths′ room f s e w =
       );
       short = λ h. absurd (omega arith);
     }
+
+-- ---- findings as text
+
+pub write-made :
+    (finding order scratch out : List ℕ) (size : ℕ) (a : Written) (scratch′ out′ : List ℕ)
+    → 24 ≤ length finding
+    → Writes (findingRead finding) order scratch out a scratch′ out′
+    → WriteCall finding order scratch out size (a .refusal) scratch′ out′ (a .length)
+write-made finding order scratch out size a scratch′ out′ room w = record { made = λ h. w; short = λ h. absurd (omega arith) }
+
+pub write-short : (finding order scratch out : List ℕ) (size : ℕ) → length finding < 24 → WriteCall finding order scratch out size 25 scratch out size
+write-short finding order scratch out size h = record { made = λ m. absurd (omega arith); short = λ s. (refl, refl, refl, refl) }
+
+pub read-made :
+    (text order scratch finding : List ℕ) (a : Reading) (order′ scratch′ finding′ : List ℕ)
+    → 24 ≤ length finding
+    → Reads text order scratch a order′ scratch′
+    → finding′ ≡ written (findingNumbers (a .finding)) finding
+    → ReadCall text order scratch finding (a .refusal) order′ scratch′ finding′
+read-made text order scratch finding a order′ scratch′ finding′ room r f =
+    record {
+      made = λ h. (
+        subst (λ (x : Reading). Reads text order scratch x order′ scratch′) (r .answered) r,
+        ap (λ (x : Reading). x .refusal) (r .answered),
+        f ∙ ap (λ (x : Reading). written (findingNumbers (x .finding)) finding) (r .answered),
+      );
+      short = λ h. absurd (omega arith);
+    }
+
+pub read-short : (text order scratch finding : List ℕ) → length finding < 24 → ReadCall text order scratch finding 25 order scratch finding
+read-short text order scratch finding h = record { made = λ m. absurd (omega arith); short = λ s. (refl, refl, refl, refl) }

@@ -1,6 +1,6 @@
 -- A finding that a host lends: its bits, what is not read of it, what is refused by its bits alone, and that a division which 32 bits do not hold is refused
 -- as the largest that they hold.
-use mathlib.Core.Path.{_≡_, refl, sym, ap, subst, _∙_}
+use mathlib.Core.Path.{_≡_, refl, sym, ap, subst, subst₂, _∙_}
 use mathlib.Core.Bool.{cond}
 use mathlib.Core.List.{List, [], _∷_}
 use Prim.Native.Nat.{ℕ, zero, suc, _+_, _-_, _^_, _≤_, _<_, min}
@@ -29,6 +29,9 @@ use Rattle.judging.specs.declared.evaluation.Evaluated.{Evaluated}
 use Rattle.judging.specs.declared.evaluation.Score.the-variants.{NoSample}
 use Rattle.judging.proofs.Checking.{Limits, limits, ordered, as-lent}
 use Rattle.judging.proofs.Evaluating.{answer-refused, scratch-lent}
+use Rattle.exchange.specs.Exchange.{Writes}
+use Rattle.exchange.specs.declared.writer.Written.{Written}
+use Rattle.exchange.proofs.Acceptance.{writes-refused, refused-answer, refused-first}
 use Rattle.exports.specs.Records.{findingRead}
 use Rattle.exports.specs.Findings.{subsetRefusal, narrowed, Readable, ReadsNoFurther}
 
@@ -121,6 +124,12 @@ module _ (f : Finding) (r : ℕ) (is : r ≡ subsetRefusal f) (some : r ≡ 0 �
       let h : earlyCheckRefusal f (length order) (length scratch) ≡ 0 → ⊥ = λ z. some (e ∙ z) in
       (e ∙ or-first _ _ h, as-lent _ (f .width) scratch h)
 
+  pub write-refused :
+      (order scratch out : List ℕ) → Writes f order scratch out (record { refusal = r; length = 0 }) scratch out
+  write-refused order scratch out =
+      let c = check-refused order scratch in
+      writes-refused f order scratch out r scratch (refused-first f order (length scratch) (length out) r (c .0) some) some (c .1)
+
   pub evaluation-refused :
       (order bytes scratch : List ℕ) (a : Evaluated) → a ≡ record { refusal = r; positive = 0; score = NoSample }
       → (a ≡ evaluatedOf f order bytes (length scratch)) × (scratch ≡ evaluatedScratch f order bytes scratch)
@@ -165,6 +174,21 @@ module _ (f : Finding) (w : f .width ≤ 20) (above : 4294967295 < f .division) 
   unfolding checkRefusal earlyCheckRefusal shapeRefusal limitRefusal
   check-above order scratch = ap (orElse (earlyCheckRefusal f (length order) scratch)) (order-alike order)
 
+  some-check : (order : List ℕ) (scratch : ℕ) → checkRefusal f order scratch ≡ 0 → ⊥
+  unfolding checkRefusal
+  some-check order scratch e = order-refused order (neither (earlyCheckRefusal f (length order) scratch) _ e .1)
+
+  writes-above : (order scratch out : List ℕ) (w : Written) (scratch′ out′ : List ℕ)
+      → Writes (narrowed f) order scratch out w scratch′ out′ → Writes f order scratch out w scratch′ out′
+  unfolding checkedScratch earlyCheckRefusal shapeRefusal limitRefusal
+  writes-above order scratch out w scratch′ out′ W =
+      let r = checkRefusal f order (length scratch) in
+      let some : r ≡ 0 → ⊥ = some-check order (length scratch) in
+      let first = refused-first (narrowed f) order (length scratch) (length out) r (sym (check-above order (length scratch))) some in
+      let a = refused-answer (narrowed f) order scratch out w scratch′ out′ r W first some in
+      subst₂ (λ (v : Written) (o : List ℕ). Writes f order scratch out v scratch′ o) (sym (a .0)) (sym (a .1))
+      (writes-refused f order scratch out r scratch′ (refused-first f order (length scratch) (length out) r refl some) some (W .checked))
+
   evaluation-above : (order bytes : List ℕ) (scratch : ℕ) → evaluationRefusal (narrowed f) order bytes scratch ≡ evaluationRefusal f order bytes scratch
   unfolding evaluationRefusal earlyEvaluationRefusal shapeRefusal limitRefusal
   evaluation-above order bytes scratch = ap (orElse (earlyEvaluationRefusal f (length order) (testingBlocks f bytes) scratch)) (order-alike order)
@@ -185,28 +209,39 @@ module _ (f : Finding) (w : f .width ≤ 20) (above : 4294967295 < f .division) 
   scratch-above order bytes scratch =
       ap (λ (x : ℕ). scratchAfter (earlyEvaluationRefusal f (length order) (testingBlocks f bytes) (length scratch)) x (countsIn f bytes) (f .width) scratch) (order-alike order)
 
-module _ (f : Finding) (w : f .width ≤ 20) where
+module _ (f : Finding) (w₀ : f .width ≤ 20) where
   pub check-alike : (order : List ℕ) (scratch : ℕ) → checkRefusal (narrowed f) order scratch ≡ checkRefusal f order scratch
   check-alike order scratch = by-size (decLe (f .division) 4294967295)
     where
       by-size : Dec (f .division ≤ 4294967295) → checkRefusal (narrowed f) order scratch ≡ checkRefusal f order scratch
       by-size (yes h) = ap (λ (g : Finding). checkRefusal g order scratch) (held f h)
-      by-size (no h) = check-above f w (omega arith) order scratch
+      by-size (no h) = check-above f w₀ (omega arith) order scratch
 
   pub cleared-alike : (order : ℕ) (scratch : List ℕ) → checkedScratch (narrowed f) order scratch ≡ checkedScratch f order scratch
   unfolding checkedScratch earlyCheckRefusal shapeRefusal limitRefusal
   cleared-alike order scratch = refl
+
+  pub writes-alike : (g : Finding) → g ≡ narrowed f → (order scratch out : List ℕ) (w : Written) (scratch′ out′ : List ℕ)
+      → Writes g order scratch out w scratch′ out′ → Writes f order scratch out w scratch′ out′
+  writes-alike g e order scratch out w scratch′ out′ G = by-size (decLe (f .division) 4294967295)
+    where
+      W : Writes (narrowed f) order scratch out w scratch′ out′
+      W = subst (λ (h : Finding). Writes h order scratch out w scratch′ out′) e G
+
+      by-size : Dec (f .division ≤ 4294967295) → Writes f order scratch out w scratch′ out′
+      by-size (yes h) = subst (λ (g : Finding). Writes g order scratch out w scratch′ out′) (held f h) W
+      by-size (no h) = writes-above f w₀ (omega arith) order scratch out w scratch′ out′ W
 
   pub evaluated-alike : (order bytes : List ℕ) (scratch : ℕ) → evaluatedOf (narrowed f) order bytes scratch ≡ evaluatedOf f order bytes scratch
   evaluated-alike order bytes scratch = by-size (decLe (f .division) 4294967295)
     where
       by-size : Dec (f .division ≤ 4294967295) → evaluatedOf (narrowed f) order bytes scratch ≡ evaluatedOf f order bytes scratch
       by-size (yes h) = ap (λ (g : Finding). evaluatedOf g order bytes scratch) (held f h)
-      by-size (no h) = evaluated-above f w (omega arith) order bytes scratch
+      by-size (no h) = evaluated-above f w₀ (omega arith) order bytes scratch
 
   pub counted-alike : (order bytes scratch : List ℕ) → evaluatedScratch (narrowed f) order bytes scratch ≡ evaluatedScratch f order bytes scratch
   counted-alike order bytes scratch = by-size (decLe (f .division) 4294967295)
     where
       by-size : Dec (f .division ≤ 4294967295) → evaluatedScratch (narrowed f) order bytes scratch ≡ evaluatedScratch f order bytes scratch
       by-size (yes h) = ap (λ (g : Finding). evaluatedScratch g order bytes scratch) (held f h)
-      by-size (no h) = scratch-above f w (omega arith) order bytes scratch
+      by-size (no h) = scratch-above f w₀ (omega arith) order bytes scratch
