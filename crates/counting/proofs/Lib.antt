@@ -6,3 +6,4 @@ pub mod Counts
 pub mod Marks
 pub mod Tallying
 pub mod Halves
+pub mod Buffers

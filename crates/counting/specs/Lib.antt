@@ -7,3 +7,4 @@ pub mod Sampling
 pub mod Recorded
 pub mod Tally
 pub mod Rows
+pub mod Buffer

@@ -1,26 +1,26 @@
 -- Laws of findings that the check accepts: their numbers fit 32 bits and are within the writer's limits. What a writing promises, refused or not.
 use mathlib.Core.Path.{_≡_, refl, sym, ap, _∙_}
-use mathlib.Core.Bool.{Bool, true, false, cond}
+use mathlib.Core.Bool.{true, cond}
 use mathlib.Core.List.{List, [], _∷_}
 use Prim.Native.Nat.{ℕ, zero, suc, _^_, _≤_, _<_}
 use native.Mathlib.Nat.{pow-le-pow-right}
 use native.Mathlib.Omega.{arith}
-use lib.Dec.{ltb, leb}
+use lib.Dec.{ltb}
 use lib.ListN.{length, getD}
 use borrow.Author.Tests.{ltb-true, le-leb, lt-leb}
 use Rattle.counting.proofs.Accepted.{both, valid-facts}
 use Rattle.subsets.specs.Bits.{increasing, within, bitsRefusal}
 use Rattle.searching.specs.declared.finding.Finding.{Finding}
-use Rattle.searching.proofs.Refusing.{or-first, or-next, neither, passed}
-use Rattle.judging.specs.Check.{chosen, shapeRefusal, orderRefusal, earlyCheckRefusal, checkRefusal, checkedScratch}
-use Rattle.judging.proofs.Checking.{Shaped, shaped, Ordered, ordered, chosen-length}
+use Rattle.searching.proofs.Refusing.{or-first, neither, passed}
+use Rattle.judging.specs.Check.{chosen, shapeRefusal, earlyCheckRefusal, checkRefusal, checkedScratch}
+use Rattle.judging.proofs.Checking.{shaped, ordered}
 use Rattle.judging.proofs.Once.{once-permutes}
 use Rattle.judging.proofs.Tallying.{bin-below}
 use Rattle.exchange.specs.declared.writer.Written.{Written}
-use Rattle.exchange.specs.Buffer.{put}
-use Rattle.exchange.specs.Writer.{Fits, Words, Writable}
+use Rattle.counting.specs.Buffer.{put}
+use Rattle.exchange.specs.Writer.{Fits, Writable}
 use Rattle.exchange.specs.Exchange.{roomRefusal, exchangedOf, findingText, writeRefusal, writtenWith, outputAfter, Writes}
-use Rattle.exchange.proofs.Buffers.{put-first}
+use Rattle.counting.proofs.Buffers.{put-first}
 
 -- ---- what an accepted finding's numbers are
 

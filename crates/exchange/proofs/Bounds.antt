@@ -1,6 +1,6 @@
 -- How long a text can be (`text-fits`), and how many indices one can have (`indices-fit`).
-use mathlib.Core.Path.{_≡_, refl, sym, ap, ap₂, _∙_}
-use mathlib.Core.Bool.{Bool, true, false, cond, _&&_}
+use mathlib.Core.Path.{_≡_, refl, ap, ap₂, _∙_}
+use mathlib.Core.Bool.{Bool, true, false, cond}
 use mathlib.Core.List.{List, [], _∷_, _++_}
 use mathlib.Core.Option.{Option, none, some}
 use Prim.Native.Nat.{ℕ, zero, suc, _+_, _*_, _/_, _^_, _≤_, _<_}
@@ -14,32 +14,7 @@ use Rattle.subsets.specs.Bits.{validWidth}
 use Rattle.searching.specs.declared.finding.Finding.{Finding}
 use Rattle.judging.specs.Check.{chosen}
 use Rattle.judging.proofs.Checking.{chosen-length}
-use Rattle.exchange.specs.Grammar.{
-  Exchanged,
-  ascii,
-  Token,
-  Whole,
-  Word,
-  word,
-  Separated,
-  last,
-  further,
-  Entry,
-  entry,
-  Array,
-  empty,
-  full,
-  Seen,
-  seen,
-  Member,
-  has-bits,
-  has-indices,
-  has-division,
-  has-block,
-  has-score,
-  Text,
-  text,
-}
+use Rattle.exchange.specs.Grammar.{Exchanged, ascii, Word, word, Separated, last, further, Entry, entry, Array, empty, full, Seen, seen, Member, has-bits, has-indices, has-division, has-block, has-score, Text, text}
 use Rattle.exchange.specs.Writer.{decimal, listed, Writable}
 use Rattle.exchange.specs.Exchange.{exchangedOf, findingText}
 use Rattle.exchange.specs.Length.{longestText, TextFits, IndicesFit}

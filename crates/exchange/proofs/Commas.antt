@@ -1,15 +1,15 @@
 -- Laws of numbers with commas between them: how long they are, and one more of them put into a buffer.
-use mathlib.Core.Path.{_≡_, refl, sym, ap, ap₂, _∙_}
-use mathlib.Core.List.{List, [], _∷_, _++_, append-assoc, append-nil}
-use Prim.Native.Nat.{ℕ, zero, suc, _+_, _-_, _*_, _≤_, _<_}
+use mathlib.Core.Path.{_≡_, refl, ap, _∙_}
+use mathlib.Core.List.{List, [], _∷_, _++_}
+use Prim.Native.Nat.{ℕ, suc, _+_, _*_, _≤_, _<_}
 use native.Mathlib.Nat.{suc-mul}
 use native.Mathlib.Numerals.{add-one}
 use native.Mathlib.Omega.{arith}
-use lib.ListN.{length, getD, take, drop, set, length-append, length-drop}
+use lib.ListN.{length, getD, drop, set, length-append}
 use lib.Seq.{drop-cons, drop-length}
-use Rattle.exchange.specs.Buffer.{put}
+use Rattle.counting.specs.Buffer.{put}
 use Rattle.exchange.specs.Writer.{decimal, behind, listed}
-use Rattle.exchange.proofs.Buffers.{put-none, put-put}
+use Rattle.counting.proofs.Buffers.{put-put}
 use Rattle.exchange.proofs.Figures.{put-one, digits-ten}
 
 -- ---- what is left of the numbers from place i on

@@ -26,11 +26,11 @@ use Rattle.exchange.specs.Reader.{
   readText,
 }
 use Rattle.exchange.specs.Writer.{digitsOf, decimal, behind, listed, textOf}
-use Rattle.exchange.specs.Examples.{Examples}
+use Rattle.exchange.specs.Examples.{TextExamples}
 
-pub examples : Examples
+pub text-examples : TextExamples
 unfolding isSpace isDigit isExp skip readExactly readToken readDigits readWhole skipDigits skipMinus skipSign skipFraction skipExponent skipNumber skipScore readWord readTurns readEntry readArray readName readKey readValue readMember whole readText digitsOf decimal behind listed textOf
-examples =
+text-examples =
     record {
       written = refl;
       spaced = refl;

@@ -1,50 +1,32 @@
 -- The theorems of the two calls.
 use mathlib.Core.Path.{_≡_, refl, sym, ap, _∙_, subst}
-use mathlib.Core.Bool.{Bool, true, false, cond}
-use mathlib.Core.List.{List, [], _∷_, _++_}
+use mathlib.Core.Bool.{Bool, cond}
+use mathlib.Core.List.{List, _++_}
 use mathlib.Core.Option.{Option, none, some}
-use Prim.Native.Nat.{ℕ, zero, suc, _^_, _≤_, _<_}
+use Prim.Native.Nat.{ℕ, zero, suc, _^_, _≤_}
 use native.Mathlib.Omega.{arith}
-use lib.Dec.{leb}
-use lib.ListN.{length, take, drop, length-take}
+use lib.ListN.{length, take, drop}
 use lib.Seq.{take-at, take-all}
 use borrow.Author.Tests.{le-leb}
 use Rattle.subsets.specs.Subsets.{padded}
 use Rattle.subsets.proofs.Filling.{padded-front, padded-length}
 use Rattle.ranking.specs.Ranking.{zeroScore}
 use Rattle.counting.specs.Recording.{recording}
-use Rattle.counting.specs.declared.sampling.Sampler.{Sampler}
-use Rattle.searching.specs.Claim.{Session, Best}
+use Rattle.searching.specs.Claim.{Best}
 use Rattle.searching.specs.declared.finding.Finding.{Finding}
 use Rattle.searching.proofs.Refusing.{neither}
 use Rattle.searching.proofs.Claiming.{claims}
-use Rattle.judging.specs.Check.{chosen, limitRefusal, shapeRefusal, scratchRefusal, orderRefusal, earlyCheckRefusal, checkRefusal}
+use Rattle.judging.specs.Check.{chosen, limitRefusal, shapeRefusal, scratchRefusal, earlyCheckRefusal, checkRefusal}
 use Rattle.judging.specs.Evaluation.{testingBlocks, blocksRefusal, earlyEvaluationRefusal, evaluationRefusal}
 use Rattle.judging.specs.Agreement.{Agrees}
 use Rattle.judging.proofs.Agreeing.{all-agree}
 use Rattle.judging.proofs.Checking.{chosen-length}
 use Rattle.exchange.specs.Grammar.{Exchanged}
 use Rattle.exchange.specs.Reader.{readText}
-use Rattle.exchange.specs.Writer.{textOf, Writable}
-use Rattle.exchange.specs.Exchange.{
-  roomRefusal,
-  begun,
-  exchangedOf,
-  findingText,
-  writeRefusal,
-  writtenWith,
-  outputAfter,
-  Writes,
-  saidFinding,
-  saidRefusal,
-  readingWith,
-  readingOf,
-  orderAfter,
-  Reads,
-}
+use Rattle.exchange.specs.Writer.{Writable}
+use Rattle.exchange.specs.Exchange.{roomRefusal, begun, exchangedOf, findingText, writeRefusal, writtenWith, outputAfter, saidFinding, saidRefusal, readingWith, readingOf, orderAfter}
 use Rattle.exchange.specs.Length.{longestText}
-use Rattle.exchange.specs.Theorems.{ReaderAgrees, bare, RoundTrip, AcceptedWritten, scoreless, Passes, SearchesPass, SearchesExchange}
-use Rattle.exchange.specs.declared.reader.Reading.{Reading}
+use Rattle.exchange.specs.Theorems.{ReaderAgrees, bare, RoundTrip, AcceptedWritten, scoreless, Passes, SearchesExchange}
 use Rattle.exchange.specs.declared.writer.Written.{Written}
 use Rattle.exchange.proofs.Objects.{text-sound, text-complete, text-unique}
 use Rattle.exchange.proofs.Written.{text-back}

@@ -6,14 +6,12 @@ use Prim.Native.Nat.{ℕ, zero, suc, _+_, _-_, _*_, _/_, _%_, _^_, _≤_, _<_}
 use native.Mathlib.Nat.{pow-suc, one-le-pow, div-div-eq-div-mul, mul-comm}
 use native.Mathlib.Numerals.{add-one}
 use native.Mathlib.Omega.{arith}
-use lib.Dec.{ltb}
-use lib.ListN.{length, getD, take, drop, set, length-append, length-drop}
-use lib.Seq.{drop-cons}
-use borrow.Author.Tests.{ltb-true, ltb-false, lt-ltb, le-ltb}
-use Rattle.exchange.specs.Grammar.{ascii}
-use Rattle.exchange.specs.Buffer.{put}
-use Rattle.exchange.specs.Writer.{digitsOf, places, decimal, behind, listed}
-use Rattle.exchange.proofs.Buffers.{put-none, length-put, put-more, put-put}
+use lib.Dec.{ltb, leb}
+use lib.ListN.{length, set, length-append}
+use borrow.Author.Tests.{ltb-true, ltb-false, lt-ltb, le-ltb, leb-true, leb-false, lt-leb, le-leb}
+use Rattle.counting.specs.Buffer.{put}
+use Rattle.exchange.specs.Writer.{digitsOf, places, decimal}
+use Rattle.counting.proofs.Buffers.{put-none, put-more, put-put}
 use Rattle.exchange.proofs.Following.{decimal-one, decimal-more}
 
 -- ---- how many digits
@@ -48,6 +46,64 @@ digit-count k n l h g = sym (more-digits k 8 n l h g)
 pub digit-count-one : (n : ℕ) → n < 10 → 1 ≡ length (decimal n)
 unfolding decimal
 digit-count-one n h = sym (one-digit 9 n h)
+
+-- ---- one more digit for each power of ten
+
+-- how many of the k numbers p, 10 p, 100 p, .. are at most n
+unfoldable pub reached : ℕ → ℕ → ℕ → ℕ
+reached zero p n = 0
+reached (suc k) p n = cond (leb p n) 1 0 + reached k (p * 10) n
+
+reached-tenth : (k p n : ℕ) → reached k (p * 10) n ≡ reached k p (n / 10)
+unfolding reached
+reached-tenth zero p n = refl
+reached-tenth (suc k) p n = ap₂ (λ (b : Bool) (m : ℕ). cond b 1 0 + m) (by-test (leb p (n / 10)) refl) (reached-tenth k (p * 10) n)
+  where
+    by-test : (b : Bool) → leb p (n / 10) ≡ b → leb (p * 10) n ≡ leb p (n / 10)
+    by-test true e = let low : p ≤ n / 10 = leb-true p (n / 10) e in le-leb (p * 10) n (omega arith) ∙ sym e
+    by-test false e = let high : n / 10 < p = leb-false p (n / 10) e in lt-leb (p * 10) n (omega arith) ∙ sym e
+
+reached-none : (k p n : ℕ) → n < p → reached k p n ≡ 0
+unfolding reached
+reached-none zero p n h = refl
+reached-none (suc k) p n h = rw (lt-leb p n h, reached-none k (p * 10) n (omega arith))
+
+digits-reached : (k n : ℕ) → 1 + reached k 10 n ≡ length (digitsOf k n)
+unfolding digitsOf reached
+digits-reached zero n = refl
+digits-reached (suc k) n = by-test (ltb n 10) refl (digits-reached k (n / 10))
+  where
+    by-test : (b : Bool) → ltb n 10 ≡ b → 1 + reached k 10 (n / 10) ≡ length (digitsOf k (n / 10))
+        → 1 + (cond (leb 10 n) 1 0 + reached k (10 * 10) n) ≡ length (cond b ((48 + n) ∷ []) (digitsOf k (n / 10) ++ ((48 + n % 10) ∷ [])))
+    by-test true e r =
+        let low : n < 10 = ltb-true n 10 e in
+        let none : reached k (10 * 10) n ≡ 0 = reached-none k (10 * 10) n (omega arith) in
+        rw (lt-leb 10 n low, none)
+    by-test false e r =
+        let high : 10 ≤ n = ltb-false n 10 e in
+        rw (le-leb 10 n high, reached-tenth k 10 n) (omega (arith, r, length-append (digitsOf k (n / 10)) ((48 + n % 10) ∷ [])))
+
+pub decimal-reached : (n : ℕ) → 1 + reached 9 10 n ≡ length (decimal n)
+unfolding decimal
+decimal-reached n = digits-reached 9 n
+
+pub reached-next : (i n : ℕ) → i < 9 → reached (9 - i) (10 ^ suc i) n ≡ cond (leb (10 ^ i * 10) n) 1 0 + reached (9 - (i + 1)) (10 ^ suc (i + 1)) n
+unfolding reached
+reached-next i n h =
+    let less : 9 - i ≡ suc (9 - (i + 1)) = omega arith in
+    let p : 10 ^ suc i ≡ 10 ^ i * 10 = pow-suc 10 i in
+    let q : 10 ^ suc (i + 1) ≡ 10 ^ i * 10 * 10 = rw add-one (pow-suc 10 (suc i) ∙ ap (λ (m : ℕ). m * 10) p) in
+    rw (less, p, q)
+
+pub reached-none-left : (i n : ℕ) → i ≡ 9 → reached (9 - i) (10 ^ suc i) n ≡ 0
+unfolding reached
+reached-none-left i n e = rw e
+
+pub one-at-most : (b : Bool) → cond b 1 0 ≤ 1
+one-at-most true = omega arith
+one-at-most false = omega arith
+
+-- ---- at most so many
 
 -- a number below 10 ^ (k + 1) has k + 1 digits at most
 few-digits : (k j n : ℕ) → n < 10 ^ suc k → length (digitsOf j n) ≤ suc k

@@ -8,7 +8,7 @@ use native.Mathlib.Omega.{arith}
 use lib.ListN.{length, drop}
 use Rattle.exchange.specs.Grammar.{Seen}
 use Rattle.exchange.specs.Reader.{Read}
-use Rattle.exchange.specs.Cursor.{At, Got, PlaceIs, WordIs, CountIs, ArrayIs, KeyIs, MembersAre, seenIn, Sized}
+use Rattle.exchange.specs.Cursor.{Got, PlaceIs, WordIs, CountIs, ArrayIs, KeyIs, MembersAre, seenIn, Sized}
 use Rattle.exchange.specs.declared.cursor.Place.{Place}
 use Rattle.exchange.specs.declared.words.WordAt.{WordAt}
 use Rattle.exchange.specs.declared.arrays.Counted.{Counted}

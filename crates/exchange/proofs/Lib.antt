@@ -13,7 +13,6 @@ pub mod Collecting
 pub mod Completing
 pub mod Receiving
 pub mod Written
-pub mod Buffers
 pub mod Figures
 pub mod Commas
 pub mod Pieces

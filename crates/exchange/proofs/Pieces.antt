@@ -1,12 +1,12 @@
 -- Laws of the text's pieces: how long they are, and that they make the text.
-use mathlib.Core.Path.{_≡_, refl, sym, ap, ap₂, _∙_}
-use mathlib.Core.List.{List, [], _∷_, _++_, append-assoc, append-nil}
-use Prim.Native.Nat.{ℕ, zero, suc, _+_, _*_, _≤_, _<_}
+use mathlib.Core.Path.{_≡_, sym, ap, _∙_}
+use mathlib.Core.List.{List, _++_, append-assoc}
+use Prim.Native.Nat.{ℕ, _+_, _≤_}
 use native.Mathlib.Nat.{zero-add}
 use native.Mathlib.Omega.{arith}
 use lib.ListN.{length, length-append}
 use Rattle.exchange.specs.Grammar.{Exchanged, ascii}
-use Rattle.exchange.specs.Buffer.{put}
+use Rattle.counting.specs.Buffer.{put}
 use Rattle.exchange.specs.Writer.{decimal, listed, textOf, arraysText, numbersText}
 use Rattle.exchange.proofs.Figures.{Stands, stands-then}
 

@@ -1,9 +1,9 @@
 -- Laws of one step of a cursor: what the byte at place i makes of what is read from there on.
 use mathlib.Core.Path.{_≡_, refl, sym, ap, _∙_}
 use mathlib.Core.Bool.{Bool, true, false, cond}
-use mathlib.Core.List.{List, [], _∷_, _++_}
+use mathlib.Core.List.{List, [], _∷_}
 use mathlib.Core.Option.{Option, none, some}
-use Prim.Native.Nat.{ℕ, zero, suc, _+_, _-_, _*_, _^_, _≤_, _<_}
+use Prim.Native.Nat.{ℕ, suc, _+_, _-_, _*_, _^_, _≤_, _<_}
 use native.Mathlib.Nat.{mul-assoc, mul-le-mul, mul-le-mul-right, pow-le-pow-right, pow-succ'}
 use native.Mathlib.Numerals.{add-one}
 use native.Mathlib.Omega.{arith}
@@ -12,8 +12,8 @@ use lib.ListN.{length, getD, drop, drop-of-length-le, length-drop}
 use lib.Seq.{drop-cons}
 use borrow.Author.Tests.{leb-true, le-leb, lt-leb, eq-eqb, ne-eqb}
 use Rattle.exchange.specs.Grammar.{isSpace, isDigit}
-use Rattle.exchange.specs.Reader.{Read, bind, skip, readExactly, readDigits, readWhole, readWord, held}
-use Rattle.exchange.specs.Cursor.{At, PlaceIs, WordIs, restOf, IsRead}
+use Rattle.exchange.specs.Reader.{Read, skip, readExactly, readDigits, readWhole, readWord, held}
+use Rattle.exchange.specs.Cursor.{PlaceIs, WordIs, restOf, IsRead}
 use Rattle.exchange.specs.declared.words.WordAt.{WordAt}
 use Rattle.exchange.proofs.Following.{digits-grow, digits-rest}
 use Rattle.exchange.proofs.Tokens.{none-some, some-same, digit-range}

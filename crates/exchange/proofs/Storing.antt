@@ -1,9 +1,9 @@
 -- Laws of arrays: how one is read by its brackets, and what stands behind each number of one that is read to its end.
-use mathlib.Core.Path.{_≡_, refl, sym, ap, subst, _∙_}
+use mathlib.Core.Path.{_≡_, refl, sym, ap, _∙_}
 use mathlib.Core.Bool.{Bool, true, false}
 use mathlib.Core.List.{List, [], _∷_, _++_, append-assoc}
-use mathlib.Core.Option.{Option, none, some}
-use Prim.Native.Nat.{ℕ, _+_, _≤_, _<_}
+use mathlib.Core.Option.{none, some}
+use Prim.Native.Nat.{ℕ, _+_, _<_}
 use native.Mathlib.Omega.{arith}
 use lib.Dec.{eqb, ltb}
 use lib.ListN.{length, take, drop, getD, length-append, length-take}
@@ -13,7 +13,6 @@ use Rattle.exchange.specs.Grammar.{ascii, Separated, last, further, Entr
 use Rattle.exchange.specs.Reader.{Read, bind, either, skip, readExactly, readToken, readWord, readEntry, readArray}
 use Rattle.exchange.specs.Cursor.{numbersIn, CountIs, ArrayIs}
 use Rattle.exchange.specs.declared.arrays.Counted.{Counted}
-use Rattle.exchange.specs.declared.arrays.ArrayAt.{ArrayAt}
 use Rattle.exchange.proofs.Tokens.{none-some, some-same, bound, chosen, passed}
 use Rattle.exchange.proofs.Objects.{turns-sound, entry-sound}
 use Rattle.exchange.proofs.Following.{entry-turn}

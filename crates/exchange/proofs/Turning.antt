@@ -1,15 +1,13 @@
 -- Laws of a cursor's loop over numbers: what its steps' answers make of a turn.
-use mathlib.Core.Path.{_≡_, refl, sym, ap, _∙_}
-use mathlib.Core.Bool.{Bool, true, false}
+use mathlib.Core.Path.{_≡_, sym, ap, _∙_}
 use mathlib.Core.List.{List, [], _∷_, _++_}
-use mathlib.Core.Option.{Option, none, some}
-use Prim.Native.Nat.{ℕ, zero, suc, _+_, _-_, _≤_, _<_}
+use mathlib.Core.Option.{none, some}
+use Prim.Native.Nat.{ℕ, _+_, _-_, _≤_, _<_}
 use native.Mathlib.Omega.{arith}
-use lib.Dec.{eqb}
 use lib.ListN.{length, getD, drop, length-append, length-drop}
 use borrow.Author.Tests.{eq-eqb, ne-eqb}
 use Rattle.exchange.specs.Grammar.{ascii}
-use Rattle.exchange.specs.Reader.{Read, bind, either, skip, readExactly, readToken, readWord, readEntry, readSeparated}
+use Rattle.exchange.specs.Reader.{Read, skip, readExactly, readToken, readWord, readEntry, readSeparated}
 use Rattle.exchange.proofs.Tokens.{token-sound}
 use Rattle.exchange.proofs.Numbers.{word-sound}
 use Rattle.exchange.proofs.Objects.{token-long}

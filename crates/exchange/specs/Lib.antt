@@ -2,7 +2,6 @@
 pub mod Grammar
 pub mod Reader
 pub mod Writer
-pub mod Buffer
 pub mod Cursor
 pub mod Exchange
 pub mod Length

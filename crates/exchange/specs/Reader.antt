@@ -1,5 +1,4 @@
 -- What is read of a text: recognisers that take the bytes from the cursor on and give back what they read and the bytes that are left, or nothing.
-use mathlib.Core.Path.{_≡_}
 use mathlib.Core.Bool.{Bool, true, false, cond, _||_}
 use mathlib.Core.List.{List, [], _∷_, _++_}
 use mathlib.Core.Option.{Option, none, some}

@@ -2,14 +2,12 @@
 use mathlib.Core.Path.{_≡_}
 use mathlib.Core.Bool.{cond}
 use mathlib.Core.List.{List, [], _∷_, _++_}
-use mathlib.Core.Option.{Option, none, some}
 use Prim.Native.Nat.{ℕ, zero, suc, _+_, _/_, _%_, _^_, _≤_, _<_}
 use lib.Dec.{ltb}
 use lib.ListN.{length, getD}
 use Rattle.searching.specs.declared.finding.Finding.{Finding}
 use Rattle.judging.specs.Check.{chosen}
-use Rattle.exchange.specs.Grammar.{Exchanged, ascii, Text}
-use Rattle.exchange.specs.Reader.{readText}
+use Rattle.exchange.specs.Grammar.{Exchanged, ascii}
 
 -- n's digits, at most k of them behind the first
 unfoldable pub digitsOf : ℕ → ℕ → List ℕ

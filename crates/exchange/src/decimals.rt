@@ -1,42 +1,35 @@
 // Decimal numbers without leading zeros, written into a buffer.
 ghost use mathlib.Core.Path.{_≡_};
+ghost use mathlib.Core.Bool.{cond};
 ghost use Prim.Native.Nat.{_+_, _≤_, _<_};
+ghost use lib.Dec.{leb};
 ghost use lib.ListN.{length};
-ghost use Rattle.exchange.specs.Buffer.{put};
+ghost use Rattle.counting.specs.Buffer.{put};
 ghost use Rattle.exchange.specs.Writer.{places, decimal, listed};
 
-// How many digits a number has. Comparisons are quicker than divisions.
+// How many digits a number has: one, and one more for each power of ten up to it. Without branches, so that many numbers are counted at a time.
 pub fn digits(n: u32) -> usize
     ensures { λ r. ⌜ r ≡ length (decimal n) ⌝ }
 {
-    if n < 10 {
-        return 1;
+    let mut count: u32 = 1;
+    let mut power: u32 = 1;
+    let mut i: usize = 0;
+    while i < 9 {
+        power *= 10;
+        count += reaches(n, power);
+        i += 1;
     }
-    if n < 100 {
-        return 2;
+    count as usize
+}
+
+// 1 where n is m or more, else 0.
+fn reaches(n: u32, m: u32) -> u32
+    ensures { λ r. ⌜ r ≡ cond (leb m n) 1 0 ⌝ }
+{
+    if n < m {
+        return 0;
     }
-    if n < 1000 {
-        return 3;
-    }
-    if n < 10000 {
-        return 4;
-    }
-    if n < 100000 {
-        return 5;
-    }
-    if n < 1000000 {
-        return 6;
-    }
-    if n < 10000000 {
-        return 7;
-    }
-    if n < 100000000 {
-        return 8;
-    }
-    if n < 1000000000 {
-        return 9;
-    }
-    10
+    1
 }
 
 // How long numbers with commas between them are.

@@ -3,7 +3,7 @@ ghost use mathlib.Core.Path.{_≡_};
 ghost use Prim.Native.Nat.{_+_, _≤_};
 ghost use lib.Dec.{leb};
 ghost use lib.ListN.{length};
-ghost use Rattle.exchange.specs.Buffer.{put};
+ghost use Rattle.counting.specs.Buffer.{put};
 ghost use Rattle.exchange.specs.Exchange.{findingText, Writes};
 ghost use Rattle.exchange.specs.Length.{longestText};
 ghost use Rattle.exchange.specs.Writer.{arraysText, numbersText, Writable};

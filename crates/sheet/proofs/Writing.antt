@@ -1,12 +1,12 @@
--- Laws of numbers in columns and of bytes put into a buffer.
+-- Laws of numbers in columns, written into a buffer.
 use mathlib.Core.Path.{_≡_, refl, sym, ap, _∙_}
 use mathlib.Core.List.{List, [], _∷_, _++_, append-assoc, append-nil}
 use Prim.Native.Nat.{ℕ, zero, suc, _+_, _-_, _*_, _/_, _%_, _^_, _≤_, _<_}
-use native.Mathlib.Nat.{mul-le-mul-left, mul-zero, mul-suc, zero-add, add-zero, pow-suc, div-one, div-div-eq-div-mul}
+use native.Mathlib.Nat.{mul-le-mul-left, mul-zero, mul-suc, pow-suc, div-one, div-div-eq-div-mul}
 use native.Mathlib.Numerals.{add-one}
 use native.Mathlib.Omega.{arith}
-use lib.ListN.{length, take, drop, getD, set, length-append, length-drop, take-append-drop}
-use lib.Seq.{take-suc, take-length, length-take-le, drop-cons, set-at, take-at, drop-at, drop-drop, append-snoc, getD-set-same, getD-set-other}
+use lib.ListN.{length, take, getD, set, length-append}
+use lib.Seq.{take-suc, take-length, length-take-le, getD-set-same, getD-set-other}
 use Rattle.counting.specs.Sample.{listOf}
 use Rattle.counting.proofs.Counts.{length-list}
 use borrow.Author.Tests.{le-leb, lt-leb, leb-true, eqb-true, eqb-false}
@@ -14,7 +14,9 @@ use lib.Arith.{lt-of-le-ne}
 use lib.Dec.{leb, eqb}
 use mathlib.Core.Bool.{Bool, true, false}
 use Rattle.sheet.specs.Lines.{threeLines, Printed}
-use Rattle.sheet.specs.Columns.{symbol, symbolAt, columns, fields, line, put}
+use Rattle.sheet.specs.Columns.{symbol, symbolAt, columns, fields, line}
+use Rattle.counting.specs.Buffer.{put}
+use Rattle.counting.proofs.Buffers.{put-none, put-more, put-put, put-first}
 
 -- ---- characters
 
@@ -63,46 +65,6 @@ pub fields-more : (w : ℕ) (ns : List ℕ) (n : ℕ) → fields w (ns ++ (n ∷
 unfolding fields
 fields-more w [] n = append-nil (columns w n)
 fields-more w (m ∷ ns) n = ap (λ (s : List ℕ). columns w m ++ s) (fields-more w ns n) ∙ sym (append-assoc (columns w m) (fields w ns) (columns w n))
-
--- ---- bytes put into a buffer
-
-length-head : (out : List ℕ) (at : ℕ) (s : List ℕ) → at ≤ length out → length (take at out ++ s) ≡ at + length s
-length-head out at s h = length-append (take at out) s ∙ rw (length-take-le at out h)
-
-pub put-none : (out : List ℕ) (at : ℕ) → put out at [] ≡ out
-unfolding put
-put-none out at = simp (append-nil, add-zero) (take-append-drop at out)
-
-pub length-put : (out : List ℕ) (at : ℕ) (s : List ℕ) → at + length s ≤ length out → length (put out at s) ≡ length out
-unfolding put
-length-put out at s h =
-    let a : at ≤ length out = omega arith in
-    length-append (take at out ++ s) (drop (at + length s) out) ∙ rw (length-head out at s a, length-drop (at + length s) out) (omega arith)
-
-pub put-more : (out : List ℕ) (at : ℕ) (s : List ℕ) (x m : ℕ) → at + length s ≡ m → m < length out → set (put out at s) m x ≡ put out at (s ++ (x ∷ []))
-unfolding put
-put-more out at s x m e h =
-    let a : at ≤ length out = omega arith in
-    let last : at + length (s ++ (x ∷ [])) ≡ suc m = rw length-append (omega arith) in
-    ap (λ (k : ℕ). set (take at out ++ s ++ drop k out) m x) e
-    ∙ ap (λ (r : List ℕ). set (take at out ++ s ++ r) m x) (drop-cons out m 0 h)
-    ∙ set-at (take at out ++ s) (getD out m 0) (drop (suc m) out) x m (length-head out at s a ∙ e)
-    ∙ sym (append-snoc (take at out ++ s) x (drop (suc m) out))
-    ∙ ap (λ (r : List ℕ). r ++ drop (suc m) out) (append-assoc (take at out) s (x ∷ []))
-    ∙ ap (λ (k : ℕ). take at out ++ (s ++ (x ∷ [])) ++ drop k out) (sym last)
-
-pub put-put : (out : List ℕ) (at : ℕ) (s t : List ℕ) (m : ℕ) → at + length s ≡ m → m ≤ length out → put (put out at s) m t ≡ put out at (s ++ t)
-unfolding put
-put-put out at s t m e h =
-    let a : at ≤ length out = omega arith in
-    let P = take at out ++ s in
-    let Q = drop (at + length s) out in
-    let here : length P ≡ m = length-head out at s a ∙ e in
-    let all : at + length (s ++ t) ≡ at + length s + length t = rw length-append (omega arith) in
-    ap (λ (r : List ℕ). r ++ t ++ drop (m + length t) (P ++ Q)) (take-at P Q m here)
-    ∙ ap (λ (r : List ℕ). P ++ t ++ r) (sym (drop-drop (length t) m (P ++ Q)) ∙ ap (drop (length t)) (drop-at P Q m here) ∙ drop-drop (length t) (at + length s) out)
-    ∙ ap (λ (r : List ℕ). r ++ drop (at + length s + length t) out) (append-assoc (take at out) s t)
-    ∙ ap (λ (k : ℕ). take at out ++ (s ++ t) ++ drop k out) (sym all)
 
 -- ---- a field, character by character
 
@@ -155,10 +117,6 @@ unfolding line
 line-end out at w ns m e h = put-more out at (fields w ns) 10 m (rw length-fields (sym e)) h
 
 -- ---- whole sheets
-
-pub put-first : (out s : List ℕ) → put out 0 s ≡ s ++ drop (length s) out
-unfolding put
-put-first out s = ap (λ (m : ℕ). s ++ drop m out) (zero-add (length s))
 
 -- a buffer that has room, and one that has none
 pub printed : (s out : List ℕ) → length s ≤ length out → Printed s out (length s) (put out 0 s)

@@ -1,7 +1,6 @@
 -- Numbers in columns: decimal digits to the right, spaces before them.
 use Prim.Native.Nat.{ℕ, zero, suc, _+_, _-_, _/_, _%_, _^_}
 use mathlib.Core.List.{List, [], _∷_, _++_}
-use lib.ListN.{length, take, drop}
 use Rattle.counting.specs.Sample.{listOf}
 
 -- the character i places before a field's end, `rest` being the number divided by 10 ^ i: a digit; a space where no digit is left, but for the last place
@@ -26,7 +25,3 @@ fields w (n ∷ ns) = columns w n ++ fields w ns
 -- a line: its numbers and a newline
 unfoldable pub line : ℕ → List ℕ → List ℕ
 line w ns = fields w ns ++ (10 ∷ [])
-
--- the bytes s written over those of a buffer from place `at` on
-unfoldable pub put : List ℕ → ℕ → List ℕ → List ℕ
-put out at s = take at out ++ s ++ drop (at + length s) out

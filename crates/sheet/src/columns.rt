@@ -3,7 +3,8 @@ ghost use mathlib.Core.Path.{_≡_};
 ghost use Prim.Native.Nat.{_+_, _*_, _%_, _≤_};
 ghost use lib.ListN.{length};
 ghost use Rattle.sheet.specs.Columns as Columns;
-ghost use Rattle.sheet.specs.Columns.{symbol, symbolAt, put, fields, line};
+ghost use Rattle.sheet.specs.Columns.{symbol, symbolAt, fields, line};
+ghost use Rattle.counting.specs.Buffer.{put};
 
 // Writes a line of numbers, `width` columns each, from place `at` on; answers the place after it.
 pub fn put_line(out: &mut [u8], at: usize, width: usize, values: &[u64]) -> usize

@@ -3,7 +3,7 @@ ghost use mathlib.Core.Path.{_≡_};
 ghost use lib.ListN.{length};
 ghost use Prim.Native.Nat.{_+_, _*_, _≤_};
 ghost use Rattle.judging.specs.Evaluation.{scoreNumber};
-ghost use Rattle.sheet.specs.Columns.{put};
+ghost use Rattle.counting.specs.Buffer.{put};
 ghost use Rattle.sheet.specs.Judgement.{judgedOf, linesOf, Judgeable};
 use crate::lines::pattern;
 use crate::lines::put_lines;

@@ -4,7 +4,8 @@ ghost use Prim.Native.Nat.{_+_, _*_, _≤_};
 ghost use mathlib.Core.List.{[], _∷_};
 ghost use lib.Ieee.{toBits, binary64};
 ghost use lib.ListN.{length};
-ghost use Rattle.sheet.specs.Columns.{put, line};
+ghost use Rattle.sheet.specs.Columns.{line};
+ghost use Rattle.counting.specs.Buffer.{put};
 ghost use Rattle.sheet.specs.Lines.{threeLines, Printed};
 use crate::columns::put_line;
 

@@ -1,14 +1,12 @@
 -- `arrays::count_entries` meets its contract: each turn is one turn of the definition, from the numbers so far.
 use borrow.Author.Needs.{needs}
 use borrow.Author.Tests.{not-true, not-false}
-use mathlib.Core.Path.{_≡_, refl, sym, ap, _∙_}
+use mathlib.Core.Path.{_≡_, refl, sym, _∙_}
 use mathlib.Core.List.{List, [], _∷_, _++_}
-use mathlib.Core.Option.{Option, none, some}
+use mathlib.Core.Option.{none, some}
 use Prim.Native.Nat.{ℕ, _+_, _-_, _≤_, _<_}
 use native.Mathlib.Omega.{arith}
-use lib.Arith.{lt-of-le-ne}
 use lib.ListN.{length, getD, drop, length-append}
-use Rattle.exchange.specs.Grammar.{ascii}
 use Rattle.exchange.specs.Reader.{Read, readToken, readWord}
 use Rattle.exchange.specs.Cursor.{restOf}
 use Rattle.exchange.proofs.Getting.{not-got, got-none, place-got, count-is}

@@ -2,12 +2,12 @@
 use borrow.Author.Needs.{needs}
 use Prim.Native.Nat.{ℕ, _+_, _-_, _≤_, _<_}
 use mathlib.Core.List.{List}
-use mathlib.Core.Path.{_≡_, refl, sym, ap, ap₂, _∙_}
+use mathlib.Core.Path.{_≡_, refl, sym, ap, _∙_}
 use native.Mathlib.Omega.{arith}
 use lib.ListN.{length, drop, getD, length-append, length-set}
-use Rattle.exchange.specs.Buffer.{put}
+use Rattle.counting.specs.Buffer.{put}
 use Rattle.exchange.specs.Writer.{decimal, behind, listed}
-use Rattle.exchange.proofs.Buffers.{put-none, put-put}
+use Rattle.counting.proofs.Buffers.{put-none, put-put}
 use Rattle.exchange.proofs.Commas.{listed-none, listed-first, behind-next, behind-none, length-next, comma-put}
 use Rattle.exchange.proofs.decimals.put_listed.Statement.{statement}
 use Rattle.exchange.proofs.decimals.put_listed.Tie as tie

@@ -1,5 +1,4 @@
 -- `decimals::put_two` meets its contract: one digit after the other.
-use borrow.Author.Needs.{needs}
 use native.Mathlib.Omega.{arith}
 use lib.ListN.{length-set}
 use Rattle.exchange.proofs.Figures.{put-pair}

@@ -1,9 +1,7 @@
 -- `members::read_member` meets its contract, by what its steps promise.
 use borrow.Author.Needs.{needs}
 use borrow.Author.Tests.{not-true, not-false}
-use mathlib.Core.List.{List}
-use mathlib.Core.Path.{_≡_, sym, subst}
-use Prim.Native.Nat.{ℕ}
+use mathlib.Core.Path.{sym, subst}
 use lib.ListN.{drop}
 use Rattle.exchange.specs.Grammar.{Seen}
 use Rattle.exchange.specs.Reader.{Read, readKey}

@@ -3,12 +3,12 @@ use borrow.Author.Needs.{needs}
 use borrow.Author.Tests.{not-true, not-false}
 use mathlib.Core.Bool.{true}
 use mathlib.Core.List.{List}
-use mathlib.Core.Option.{Option, none, some}
+use mathlib.Core.Option.{none, some}
 use mathlib.Core.Path.{_≡_, refl, sym, _∙_}
 use Prim.Native.Nat.{ℕ, _-_, _≤_, _<_}
 use native.Mathlib.Omega.{arith}
 use lib.ListN.{length, drop}
-use Rattle.exchange.specs.Grammar.{ascii, Seen, seen}
+use Rattle.exchange.specs.Grammar.{ascii, Seen}
 use Rattle.exchange.specs.Reader.{Read, readToken, readMember, nothingSeen}
 use Rattle.exchange.specs.Cursor.{seenIn, Sized}
 use Rattle.exchange.proofs.Collecting.{membersFrom, members-stop, members-close, members-open, members-next, member-past, nothing-held, nothing-sized}

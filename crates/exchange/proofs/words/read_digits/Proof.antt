@@ -1,12 +1,10 @@
 -- `words::read_digits` meets its contract: what is left leads where all leads, and a number that is too large stays so.
 use borrow.Author.Needs.{needs}
 use borrow.Author.Tests.{not-true, not-false}
-use mathlib.Core.Bool.{true, false}
 use mathlib.Core.Path.{_≡_, refl, sym, ap, _∙_}
 use Prim.Native.Nat.{ℕ, _+_, _*_, _-_, _≤_, _<_}
 use native.Mathlib.Omega.{arith}
-use lib.ListN.{length, drop, getD}
-use Rattle.exchange.specs.Grammar.{isDigit}
+use lib.ListN.{length, drop}
 use Rattle.exchange.specs.Reader.{readDigits, held}
 use Rattle.exchange.proofs.Stepping.{digits-here, digits-next, digits-end, not-held, word-here, word-none}
 use Rattle.exchange.proofs.words.read_digits.Statement.{statement}

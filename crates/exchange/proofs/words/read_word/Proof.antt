@@ -1,13 +1,11 @@
 -- `words::read_word` meets its contract, by what its steps promise.
 use borrow.Author.Needs.{needs}
 use borrow.Author.Tests.{not-true, not-false}
-use mathlib.Core.Path.{_≡_, refl, sym, ap, subst, _∙_}
+use mathlib.Core.Path.{_≡_, refl, sym, _∙_}
 use Prim.Native.Nat.{ℕ, _+_, _≤_, _<_}
 use native.Mathlib.Omega.{arith}
 use lib.Arith.{lt-of-le-ne}
-use lib.ListN.{length, drop}
-use Rattle.exchange.specs.Reader.{readDigits, readWord, held, Read}
-use Rattle.exchange.specs.Cursor.{WordIs}
+use lib.ListN.{length}
 use Rattle.exchange.proofs.Stepping.{none-left, word-none-left, word-no-digit, word-zero, word-digits, word-here, word-none}
 use Rattle.exchange.proofs.words.read_word.Statement.{statement}
 use Rattle.exchange.proofs.words.read_word.Tie as tie

@@ -1,17 +1,12 @@
 -- `writer::put_arrays` meets its contract: each piece stands behind the one before.
 use borrow.Author.Needs.{needs}
-use Prim.Native.Nat.{ℕ, _+_, _≤_}
-use mathlib.Core.Path.{_≡_}
+use Prim.Native.Nat.{_+_, _≤_}
 use native.Mathlib.Omega.{arith}
 use lib.ListN.{length}
 use Rattle.exchange.specs.Writer.{listed}
 use Rattle.exchange.proofs.Pieces.{length-arrays, arrays-stand}
 use Rattle.exchange.proofs.writer.put_arrays.Statement.{statement}
 use Rattle.exchange.proofs.writer.put_arrays.Tie as tie
-use Rattle.exchange.proofs.writer.put_arrays.Reads as reads
-use Rattle.exchange.proofs.writer.put_arrays.Lts as lts
-use Rattle.exchange.proofs.decimals.put_listed.Reads as put-listed-reads
-use Rattle.exchange.proofs.writer.put_bytes.Reads as put-bytes-reads
 
 room : (s : tie.Start) → 29 + length (listed (s .args .bits .now)) + length (listed (s .args .order .now)) ≤ length (s .args .out .now)
 room s = omega (arith, length-arrays (s .args .bits .now) (s .args .order .now), s .pre)

@@ -1,12 +1,11 @@
 -- `writer::put_bytes` meets its contract: after i turns the first i bytes stand in the buffer.
-use borrow.Author.Needs.{needs}
 use Prim.Native.Nat.{ℕ, _+_, _-_, _≤_, _<_}
 use mathlib.Core.List.{List}
 use mathlib.Core.Path.{_≡_, sym, ap, _∙_}
 use native.Mathlib.Omega.{arith}
 use lib.ListN.{length, take, getD, set, length-set}
-use Rattle.exchange.specs.Buffer.{put}
-use Rattle.exchange.proofs.Buffers.{put-none, put-next, put-all}
+use Rattle.counting.specs.Buffer.{put}
+use Rattle.counting.proofs.Buffers.{put-none, put-next, put-all}
 use Rattle.exchange.proofs.writer.put_bytes.Statement.{statement}
 use Rattle.exchange.proofs.writer.put_bytes.Tie as tie
 

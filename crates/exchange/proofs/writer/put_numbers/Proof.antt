@@ -1,17 +1,12 @@
 -- `writer::put_numbers` meets its contract: each piece stands behind the one before.
 use borrow.Author.Needs.{needs}
-use Prim.Native.Nat.{ℕ, _+_, _≤_}
-use mathlib.Core.Path.{_≡_}
+use Prim.Native.Nat.{_+_, _≤_}
 use native.Mathlib.Omega.{arith}
 use lib.ListN.{length}
 use Rattle.exchange.specs.Writer.{decimal}
 use Rattle.exchange.proofs.Pieces.{length-numbers, numbers-stand}
 use Rattle.exchange.proofs.writer.put_numbers.Statement.{statement}
 use Rattle.exchange.proofs.writer.put_numbers.Tie as tie
-use Rattle.exchange.proofs.writer.put_numbers.Reads as reads
-use Rattle.exchange.proofs.writer.put_numbers.Lts as lts
-use Rattle.exchange.proofs.decimals.put_decimal.Reads as put-decimal-reads
-use Rattle.exchange.proofs.writer.put_bytes.Reads as put-bytes-reads
 
 room : (s : tie.Start) → s .args .at + 33 + length (decimal (s .args .division)) + length (decimal (s .args .block-size)) ≤ length (s .args .out .now)
 room s = omega (arith, length-numbers (s .args .division) (s .args .block-size), s .pre)

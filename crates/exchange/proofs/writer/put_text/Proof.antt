@@ -1,20 +1,16 @@
 -- `writer::put_text` meets its contract: the arrays, and the numbers behind them.
 use borrow.Author.Needs.{needs}
-use Prim.Native.Nat.{ℕ, _+_, _≤_}
+use Prim.Native.Nat.{_+_, _≤_}
 use mathlib.Core.Path.{_≡_, sym, ap, _∙_}
 use native.Mathlib.Omega.{arith}
 use lib.ListN.{length, length-append}
 use lib.Seq.{length-take-le}
 use Rattle.judging.specs.Check.{chosen}
-use Rattle.exchange.specs.Writer.{arraysText, numbersText, Writable}
+use Rattle.exchange.specs.Writer.{arraysText, numbersText}
 use Rattle.exchange.specs.Exchange.{exchangedOf, findingText}
 use Rattle.exchange.proofs.Pieces.{text-pieces, text-stands}
 use Rattle.exchange.proofs.writer.put_text.Statement.{statement}
 use Rattle.exchange.proofs.writer.put_text.Tie as tie
-use Rattle.exchange.proofs.writer.put_text.Reads as reads
-use Rattle.exchange.proofs.writer.put_text.Lts as lts
-use Rattle.exchange.proofs.writer.put_arrays.Reads as put-arrays-reads
-use Rattle.exchange.proofs.writer.put_numbers.Reads as put-numbers-reads
 
 size : (s : tie.Start) → length (s .args .finding .bits) ≡ 20
 size s = search needs

@@ -1,12 +1,11 @@
 -- `writer::text_length` meets its contract: 62 fixed bytes, and the numbers.
 use borrow.Author.Needs.{needs}
-use Prim.Native.Nat.{ℕ, _≤_}
+use Prim.Native.Nat.{_≤_}
 use mathlib.Core.Path.{_≡_, sym}
 use native.Mathlib.Omega.{arith}
 use lib.ListN.{length}
 use lib.Seq.{length-take-le}
 use Rattle.judging.specs.Check.{chosen}
-use Rattle.exchange.specs.Writer.{Writable}
 use Rattle.exchange.specs.Exchange.{exchangedOf}
 use Rattle.exchange.proofs.Figures.{digits-ten}
 use Rattle.exchange.proofs.Commas.{listed-ten}
@@ -14,10 +13,6 @@ use Rattle.exchange.proofs.Acceptance.{bins-most}
 use Rattle.exchange.proofs.Pieces.{length-text}
 use Rattle.exchange.proofs.writer.text_length.Statement.{statement}
 use Rattle.exchange.proofs.writer.text_length.Tie as tie
-use Rattle.exchange.proofs.writer.text_length.Reads as reads
-use Rattle.exchange.proofs.writer.text_length.Lts as lts
-use Rattle.exchange.proofs.decimals.digits.Reads as digits-reads
-use Rattle.exchange.proofs.decimals.listed_length.Reads as listed-length-reads
 
 size : (s : tie.Start) → length (s .args .finding .bits) ≡ 20
 size s = search needs

@@ -5,7 +5,7 @@ use mathlib.Core.List.{List}
 use mathlib.Core.Path.{_≡_, ap, ap₂, _∙_}
 use native.Mathlib.Omega.{arith}
 use lib.ListN.{length, set, length-set}
-use Rattle.sheet.specs.Columns.{put}
+use Rattle.counting.specs.Buffer.{put}
 use Rattle.sheet.proofs.Writing.{front, front-none, front-more, front-all}
 use Rattle.sheet.proofs.columns.put_columns.Statement.{statement}
 use Rattle.sheet.proofs.columns.put_columns.Tie as tie

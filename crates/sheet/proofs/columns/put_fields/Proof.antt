@@ -6,7 +6,8 @@ use mathlib.Core.Path.{_≡_, ap, ap₂, _∙_}
 use native.Mathlib.Nat.{mul-zero}
 use native.Mathlib.Omega.{arith}
 use lib.ListN.{length, take, getD}
-use Rattle.sheet.specs.Columns.{put, columns, fields}
+use Rattle.sheet.specs.Columns.{columns, fields}
+use Rattle.counting.specs.Buffer.{put}
 use Rattle.sheet.proofs.Writing.{fields-none, fields-next, fields-all, room-more, place-more}
 use Rattle.sheet.proofs.columns.put_fields.Statement.{statement}
 use Rattle.sheet.proofs.columns.put_fields.Tie as tie

@@ -7,7 +7,7 @@ use native.Mathlib.Omega.{arith}
 use lib.ListN.{length}
 use lib.Seq.{length-take-le}
 use Rattle.counting.proofs.Accepted.{valid-facts}
-use Rattle.sheet.specs.Columns.{put}
+use Rattle.counting.specs.Buffer.{put}
 use Rattle.sheet.proofs.Accepting.{lines-are, lines-length}
 use Rattle.sheet.proofs.judgement.put_judged.Statement.{statement}
 use Rattle.sheet.proofs.judgement.put_judged.Tie as tie

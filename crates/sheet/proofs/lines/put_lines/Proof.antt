@@ -5,7 +5,8 @@ use mathlib.Core.List.{List}
 use mathlib.Core.Path.{_≡_, ap, _∙_}
 use native.Mathlib.Omega.{arith}
 use lib.ListN.{length}
-use Rattle.sheet.specs.Columns.{put, line}
+use Rattle.sheet.specs.Columns.{line}
+use Rattle.counting.specs.Buffer.{put}
 use Rattle.sheet.proofs.Writing.{lines-put}
 use Rattle.sheet.proofs.lines.put_lines.Statement.{statement}
 use Rattle.sheet.proofs.lines.put_lines.Tie as tie

@@ -7,7 +7,7 @@ use Prim.Native.Nat.{ℕ, _+_, _*_, _≤_, _<_}
 use native.Mathlib.Omega.{arith}
 use lib.ListN.{length}
 use Rattle.judging.specs.Split.{firstPart, secondPart}
-use Rattle.sheet.specs.Columns.{put}
+use Rattle.counting.specs.Buffer.{put}
 use Rattle.sheet.specs.Header.{blockSizeOf, widthOf}
 use Rattle.sheet.specs.Judgement.{linesOf}
 use Rattle.sheet.specs.Sheet.{trainingOf, testingOf, sheetOf}
