@@ -13,9 +13,11 @@
      (differential/README.md, "The stack"). The direct search takes the most, 88 KB at width 20; no other call takes 40 KB.
    - Each call takes any numbers at all. What it cannot take it refuses: the result is the number of the first refusal that
      applies, in the order given at the call, and 0 where there is none (enum jimrawel_refusal).
-   - Where a call is refused, every lent entry is as it was lent, but for two things: a record that the call writes (a sampler by
-     jimrawel_start, a finding, a rank, an evaluation, two lengths, a plan; not a ranking) then has every number 0, and after 13
-     and 14 the first 2^width entries of the scratch are 0. Beside 25 nothing at all is written.
+   - Where a call is refused, every lent entry is as it was lent, but for three things: a record that the call writes (a sampler by
+     jimrawel_start, a finding, a rank, an evaluation, two lengths, a plan, a text's length; not a ranking) then has every number 0;
+     after 13 and 14, and after 17 of jimrawel_write_finding, the first 2^width entries of the scratch are 0; and where
+     jimrawel_read_finding has read a text and the check refuses what it says, the order begins with the text's indices. Beside 25
+     nothing at all is written.
    - Entries past those that a call writes are as lent.
 
    Records
@@ -23,7 +25,10 @@
    - A sampler is 3 numbers: the block size B in bits, the number of lent words, and T, the bytes taken so far.
      Its words are lent anew with every call; no one else may change them, or the sampler, from start to the last search.
    - A finding is 24 numbers: the block size, the width k, the division, the bits of its score z as a double, and 20 bit entries, of
-     which the first k count; a search leaves the others 0, and no call reads them. Beside it stands its bin order in a buffer of its own.
+     which the first k count; a search and a reading leave the others 0, and no call reads them. Beside it stands its bin order in a
+     buffer of its own.
+   - A finding and its order as text are one object of RFC 8259 with the keys bits, sorted_indices, best_division and block_size, as the
+     upstream tool writes and reads it.
    - Bit b of a block is bit 7 - b % 8 of its byte b / 8. The bin of a block is the sum of 2^i over the i whose bits[i] is set in it. */
 
 #ifndef JIMRAWEL_H
@@ -67,6 +72,8 @@ enum jimrawel_refusal {
     JIMRAWEL_TOO_MANY = 12,          /* above 16,777,216 blocks to evaluate; for a rank, C(B, k) above 2^32 */
     JIMRAWEL_NO_PERMUTATION = 13,    /* the order does not list every bin once */
     JIMRAWEL_BAD_DIVISION = 14,      /* the division is 0, or 2^k or more */
+    JIMRAWEL_BAD_TEXT = 16,          /* the text is no such object, or a number of its four keys is above 2^32 - 1 */
+    JIMRAWEL_NO_ROOM = 17,           /* the output has fewer bytes than the text, or the order fewer entries than the text has indices */
     JIMRAWEL_SHORT_RECORD = 25,      /* a slice has fewer numbers than the record that is read from it or written to it */
     JIMRAWEL_TOO_MANY_COUNTED = 26   /* the counts of a ranking add up to 2^32 or more */
 };
@@ -138,6 +145,33 @@ uint32_t jimrawel_validate(
 uint32_t jimrawel_evaluate_histogram(
     const uint64_t *finding, size_t finding_len, const uint32_t *order, size_t order_len, const uint8_t *bytes, size_t bytes_len,
     uint32_t *scratch, size_t scratch_len, uint64_t *evaluated, size_t evaluated_len);
+
+/* Writes a finding and its order as text: {"bits":[..],"sorted_indices":[..],"best_division":..,"block_size":..}, in decimal digits without
+   leading zeros and without white space, the first `width` bits alone and no z. No zero byte ends it.
+     finding, order, scratch  as for the check, which is made first; the scratch is left as by the check, after 17 too.
+     out      the text is written to its first bytes. jimrawel_longest_text(width) bytes are always enough.
+     length   one number, apart from the slices; how many bytes were written, or 0 where refused.
+   Refusals: 25, 1, 2, 9, 10, 11, 7, 13, 14, 17. */
+uint32_t jimrawel_write_finding(
+    const uint64_t *finding, size_t finding_len, const uint32_t *order, size_t order_len, uint32_t *scratch, size_t scratch_len,
+    uint8_t *out, size_t out_len, size_t *length);
+
+/* Reads a finding and its order from a text: such an object and nothing beside it, its keys in any order, each once and without an
+   escape, white space of RFC 8259 around every token. The four keys hold whole numbers in digits alone, without leading zeros, up to
+   2^32 - 1. A z_score, any number of RFC 8259, may stand among them, at most once, and is passed over: z is 0. The width is the number
+   of bits; more than 20 are refused as a width above 20.
+     text     is read, all of it.
+     order    at least as many entries as the text has indices, which are written to its first entries; text_len / 2 entries are always
+              enough. As lent after 16 and 17.
+     scratch  at least 2^width entries; as lent after 16 and 17, else as the check leaves it. text_len / 2 entries are always enough.
+     finding  at least 24 numbers; what was read, its bit entries past the width 0.
+   Refusals: 25, 16, 17, then the check's of the finding and the indices: 1, 2, 9, 10, 11, 7, 13, 14. */
+uint32_t jimrawel_read_finding(
+    const uint8_t *text, size_t text_len, uint32_t *order, size_t order_len, uint32_t *scratch, size_t scratch_len,
+    uint64_t *finding, size_t finding_len);
+
+/* As many bytes as every text of a finding of width k fits into; 0 where k is 0 or above 20. */
+size_t jimrawel_longest_text(size_t k);
 
 /* Splits raw bytes into two parts of whole blocks.
      training  true: the first part is half of the blocks, rounded down, and the second the others. False: the first part is all blocks.

@@ -1,8 +1,10 @@
-/* A recording fed in two pieces, searched both ways, and the finding evaluated on other bytes and on none. Prints what it finds. */
+/* A recording fed in two pieces, searched both ways, the finding evaluated on other bytes and on none, written as text and read again. Prints what it
+   finds. */
 #include "../jimrawel.h"
 
 #include <inttypes.h>
 #include <stdio.h>
+#include <stdlib.h>
 #include <string.h>
 
 #define B 8
@@ -26,6 +28,29 @@ static void print_evaluated(const uint64_t *evaluated) {
 static int failed(const char *what, uint32_t refusal) {
     fprintf(stderr, "%s: refusal %" PRIu32 "\n", what, refusal);
     return 1;
+}
+
+/* Writes the finding to a buffer that is long enough, prints it, and reads it again: all but z is the same. */
+static uint32_t exchange(const uint64_t *finding, const uint32_t *order) {
+    size_t room = jimrawel_longest_text(K), length;
+    uint8_t *text = malloc(room);
+    uint32_t scratch[BINS], order_again[BINS];
+    uint64_t again[JIMRAWEL_FINDING];
+    uint32_t refusal = jimrawel_write_finding(finding, JIMRAWEL_FINDING, order, BINS, scratch, BINS, text, room, &length);
+    if (refusal == JIMRAWEL_OK) {
+        printf("%.*s\n", (int)length, (const char *)text);
+        refusal = jimrawel_read_finding(text, length, order_again, BINS, scratch, BINS, again, JIMRAWEL_FINDING);
+    }
+    if (refusal == JIMRAWEL_OK) {
+        again[JIMRAWEL_Z] = finding[JIMRAWEL_Z];
+        int same = memcmp(again, finding, sizeof again) == 0 && memcmp(order_again, order, sizeof order_again) == 0;
+        printf("read again: %s\n", same ? "the same" : "another");
+        refusal = jimrawel_read_finding(text, length - 1, order_again, BINS, scratch, BINS, again, JIMRAWEL_FINDING);
+        printf("without its last byte: refusal %" PRIu32 "\n", refusal);
+        refusal = JIMRAWEL_OK;
+    }
+    free(text);
+    return refusal;
 }
 
 int main(void) {
@@ -61,6 +86,8 @@ int main(void) {
         if (refusal != JIMRAWEL_OK) return failed("evaluation", refusal);
         print_evaluated(evaluated);
     }
+
+    if ((refusal = exchange(finding, order)) != JIMRAWEL_OK) return failed("text", refusal);
 
     static const uint8_t long_piece[61];
     refusal = jimrawel_feed(sampler, JIMRAWEL_SAMPLER, words, B, long_piece, sizeof long_piece);

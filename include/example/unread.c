@@ -1,4 +1,4 @@
-/* The check and the evaluation read no bit entry past the width, and none where the width is refused: at each width those entries lie on a page that
+/* The check, the evaluation and the writing read no bit entry past the width, and none where the width is refused: at each width those entries lie on a page that
    cannot be read. */
 #define _DEFAULT_SOURCE
 #include "../jimrawel.h"
@@ -8,6 +8,7 @@
 #include <unistd.h>
 
 static uint32_t order[1 << 20], scratch[1 << 20];
+static uint8_t text[1 << 24];
 
 int main(void) {
     const uint8_t bytes[] = {0x00, 0x80, 0xFF};
@@ -30,7 +31,9 @@ int main(void) {
         uint32_t checked = jimrawel_validate(finding, JIMRAWEL_FINDING, order, bins, scratch, bins);
         uint32_t tried = jimrawel_evaluate_histogram(
             finding, JIMRAWEL_FINDING, order, bins, bytes, sizeof bytes, scratch, bins, evaluated, JIMRAWEL_EVALUATED);
-        if (checked != expected || tried != expected) return 1;
+        size_t length;
+        uint32_t written = jimrawel_write_finding(finding, JIMRAWEL_FINDING, order, bins, scratch, bins, text, sizeof text, &length);
+        if (checked != expected || tried != expected || written != expected) return 1;
     }
     puts("no bit entry past the width is read");
     return 0;

@@ -88,6 +88,33 @@ pub fn evaluate_histogram(finding: &[u64], order: &[u32], bytes: &[u8], scratch:
     }
 }
 
+pub fn write_finding(finding: &[u64], order: &[u32], scratch: &mut [u32], out: &mut [u8], length: &mut usize) -> u32 {
+    unsafe {
+        raw::jimrawel_write_finding(
+            finding.as_ptr(), finding.len(),
+            order.as_ptr(), order.len(),
+            scratch.as_mut_ptr(), scratch.len(),
+            out.as_mut_ptr(), out.len(),
+            length,
+        )
+    }
+}
+
+pub fn read_finding(text: &[u8], order: &mut [u32], scratch: &mut [u32], finding: &mut [u64]) -> u32 {
+    unsafe {
+        raw::jimrawel_read_finding(
+            text.as_ptr(), text.len(),
+            order.as_mut_ptr(), order.len(),
+            scratch.as_mut_ptr(), scratch.len(),
+            finding.as_mut_ptr(), finding.len(),
+        )
+    }
+}
+
+pub fn longest_text(k: usize) -> usize {
+    unsafe { raw::jimrawel_longest_text(k) }
+}
+
 pub fn whole_blocks(bytes: &[u8], block_size: usize, training: bool, lengths: &mut [u64]) -> u32 {
     unsafe {
         raw::jimrawel_whole_blocks(

@@ -36,6 +36,39 @@ impl Finding {
         Ok(Finding::found(numbers, order.to_vec(), Vec::new()))
     }
 
+    /// A finding from its text, where that is an object as [`to_json`](Finding::to_json) writes it, its keys in any order, with white space and a z_score
+    /// or without, and the finding is sound. Its score and counts are not known: 0 and none.
+    pub fn from_json(text: &[u8]) -> Result<Finding, Refusal> {
+        // A text of n bytes has no more than n / 2 indices, so that neither is too short for it.
+        let (mut order, mut scratch) = (vec![0; text.len() / 2], vec![0; text.len() / 2]);
+        let mut numbers = [0; 24];
+        accepted(calls::read_finding(text, &mut order, &mut scratch, &mut numbers))?;
+        order.truncate(1 << numbers[1]);
+        order.shrink_to_fit();
+        Ok(Finding::found(numbers, order, Vec::new()))
+    }
+
+    /// The finding and its order as the upstream tool writes and reads them: one object with the keys bits, sorted_indices, best_division and block_size.
+    /// The score and the counts are not in it.
+    ///
+    /// ```
+    /// use jimrawel::{Finding, Refusal};
+    /// let finding = Finding::checked(16, &[3, 9], &[2, 0, 3, 1], 2)?;
+    /// let text = finding.to_json();
+    /// assert_eq!(text, r#"{"bits":[3,9],"sorted_indices":[2,0,3,1],"best_division":2,"block_size":16}"#);
+    /// assert_eq!(Finding::from_json(text.as_bytes())?, finding);
+    /// assert_eq!(Finding::from_json(b"{}"), Err(Refusal::Text));
+    /// # Ok::<(), Refusal>(())
+    /// ```
+    pub fn to_json(&self) -> String {
+        let mut scratch = vec![0; self.order.len()];
+        let (mut text, mut length) = (vec![0; calls::longest_text(self.bits.len())], 0);
+        accepted(calls::write_finding(&self.numbers, &self.order, &mut scratch, &mut text, &mut length)).expect("a finding is sound");
+        text.truncate(length);
+        text.shrink_to_fit();
+        String::from_utf8(text).expect("a text is ASCII")
+    }
+
     pub fn block_size(&self) -> usize {
         self.numbers[0] as usize
     }

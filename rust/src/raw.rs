@@ -62,6 +62,23 @@ extern "C" {
         evaluated: *mut u64, evaluated_len: usize,
     ) -> u32;
 
+    pub fn jimrawel_write_finding(
+        finding: *const u64, finding_len: usize,
+        order: *const u32, order_len: usize,
+        scratch: *mut u32, scratch_len: usize,
+        out: *mut u8, out_len: usize,
+        length: *mut usize,
+    ) -> u32;
+
+    pub fn jimrawel_read_finding(
+        text: *const u8, text_len: usize,
+        order: *mut u32, order_len: usize,
+        scratch: *mut u32, scratch_len: usize,
+        finding: *mut u64, finding_len: usize,
+    ) -> u32;
+
+    pub fn jimrawel_longest_text(k: usize) -> usize;
+
     pub fn jimrawel_whole_blocks(
         raw: *const u8, raw_len: usize,
         block_size: usize,

@@ -30,13 +30,17 @@ pub enum Refusal {
     NoPermutation = 13,
     /// The division is 0, or the number of bins or more.
     Division = 14,
+    /// The text is no such object, or a number of its four keys is above 2^32 - 1.
+    Text = 16,
+    /// The output or the order buffer is too short.
+    Room = 17,
     /// A slice is too short for its record.
     ShortRecord = 25,
     /// The counts of a ranking add up to 2^32 or more.
     TooManyCounted = 26,
 }
 
-const ALL: [Refusal; 16] = [
+const ALL: [Refusal; 18] = [
     Refusal::BlockSize,
     Refusal::Width,
     Refusal::WidthAboveBlock,
@@ -51,6 +55,8 @@ const ALL: [Refusal; 16] = [
     Refusal::TooMany,
     Refusal::NoPermutation,
     Refusal::Division,
+    Refusal::Text,
+    Refusal::Room,
     Refusal::ShortRecord,
     Refusal::TooManyCounted,
 ];

@@ -1,4 +1,4 @@
-use jimrawel::{plan, rank, split, Finding, Refusal, Sampler};
+use jimrawel::{calls, plan, rank, split, Finding, Refusal, Sampler};
 
 #[test]
 fn pieces_are_one_recording() {
@@ -39,4 +39,56 @@ fn ranks_parts_plans() {
     assert_eq!(split(&[1, 2, 3], 16, true), Err(Refusal::FewBlocks));
     assert_eq!(split(&[1, 2, 3, 4, 5, 6, 7], 16, true), Ok((&[1, 2][..], &[3, 4, 5, 6][..])));
     assert_eq!(plan(128, 1000), Ok(vec![(8, 8), (128, 3), (256, 2), (512, 2)]));
+}
+
+#[test]
+fn texts() {
+    let bytes: Vec<u8> = (0..200).map(|i| (i * 37 % 251) as u8).collect();
+    let mut sampler = Sampler::start(16, 100).unwrap();
+    sampler.feed(&bytes).unwrap();
+    for k in 1..6 {
+        let found = sampler.search_layered(k).unwrap();
+        let text = found.to_json();
+        let again = Finding::from_json(text.as_bytes()).unwrap();
+        assert_eq!(again, Finding::checked(16, found.bits(), found.order(), found.division()).unwrap());
+        assert_eq!((again.z(), again.counts(), again.to_json()), (0.0, &[][..], text));
+        assert_eq!(again.evaluate(&bytes).unwrap().counts, found.counts());
+    }
+    let order: Vec<u32> = (0..1 << 20).rev().collect();
+    let bits: Vec<u32> = (4076..4096).collect();
+    let wide = Finding::checked(4096, &bits, &order, (1 << 20) - 1).unwrap();
+    assert_eq!(Finding::from_json(wide.to_json().as_bytes()), Ok(wide));
+}
+
+#[test]
+fn other_texts() {
+    let read = |text: &str| Finding::from_json(text.as_bytes());
+    let spread = " {\t\"block_size\" : 8 , \"z_score\":-1.5e+3,\n\"best_division\":1,\"sorted_indices\":[1,0 ],\"bits\": [ 3 ]}\r\n";
+    assert_eq!(read(spread), Finding::checked(8, &[3], &[1, 0], 1));
+    assert_eq!(read(spread).unwrap().to_json(), r#"{"bits":[3],"sorted_indices":[1,0],"best_division":1,"block_size":8}"#);
+    assert_eq!(Finding::from_json(&spread.as_bytes()[..spread.len() - 3]), Err(Refusal::Text));
+    let text = |bits: &str, order: &str, division: &str, size: &str| {
+        format!(r#"{{"bits":[{bits}],"sorted_indices":[{order}],"best_division":{division},"block_size":{size}}}"#)
+    };
+    for (given, refusal) in [
+        (text("1,2", "0,1,2,3", "1", "12"), Refusal::BlockSize),
+        (text("", "", "1", "8"), Refusal::Width),
+        (text("1,1", "0,1,2,3", "1", "8"), Refusal::BitsNotRising),
+        (text("1,8", "0,1,2,3", "1", "8"), Refusal::BitOutside),
+        (text("1,2", "", "1", "8"), Refusal::OrderLength),
+        (text("1,2", "0,1,2,2", "1", "8"), Refusal::NoPermutation),
+        (text("1,2", "0,1,2,3", "4", "8"), Refusal::Division),
+        (text("1,2", "0,1,2,3", "1", "8.0"), Refusal::Text),
+        (text("1,2", "0,1,2,3", "1", "4294967296"), Refusal::Text),
+    ] {
+        assert_eq!(read(&given), Err(refusal), "{given}");
+    }
+    let (mut order, mut scratch, mut numbers, mut out, mut length) = ([9; 3], [9; 4], [9; 24], [9; 70], 9);
+    let sound = text("1,2", "0,1,2,3", "1", "8");
+    assert_eq!(calls::read_finding(sound.as_bytes(), &mut order, &mut scratch, &mut numbers), Refusal::Room.number());
+    assert_eq!((order, scratch, numbers), ([9; 3], [9; 4], [0; 24]));
+    let finding = [[8, 2, 1, 0, 1, 2].as_slice(), &[0; 18]].concat();
+    assert_eq!(calls::write_finding(&finding, &[0, 1, 2, 3], &mut scratch, &mut out, &mut length), Refusal::Room.number());
+    assert_eq!((scratch, out, length), ([0; 4], [9; 70], 0));
+    assert_eq!((calls::longest_text(0), calls::longest_text(21)), (0, 0));
 }

@@ -6,17 +6,19 @@
 
 mod draws;
 mod feeding;
+mod rules;
 pub mod run;
 mod sheet;
 
 pub use draws::Draws;
 pub use feeding::{capacity_bytes, cut, held, pieces, recording, valid, write_recording};
+pub use rules::Rules;
 pub use sheet::Sheet;
 
 pub use autotest::public::configurations;
 pub use bottomup::public::{
-    better, bottomup, brute_force, brute_force_threads, choose, compute_index, first_zero_bit, from_bins,
-    multi_eval_neg, negate, validate,
+    better, bottomup, brute_force, brute_force_threads, choose, compute_index, first_zero_bit, from_bins, from_json,
+    multi_eval_neg, negate, to_json, to_json_pretty, validate, Histogram,
 };
 pub use common::public::{
     arguments, bit_value_in_block, bits_block_eval, multi_eval, transform_data, whole_blocks, z_score,
@@ -103,6 +105,54 @@ mod bottomup {
         /// The refusal's words, where it refuses.
         pub fn validate(finding: &Finding) -> Result<(), String> {
             finding.histogram().validate().map_err(|e| e.to_string())
+        }
+
+        /// As the reference's `Histogram` writes itself by serde, without white space.
+        pub fn to_json(finding: &Finding) -> String {
+            serde_json::to_string(&finding.histogram()).unwrap()
+        }
+
+        /// The same over several lines.
+        pub fn to_json_pretty(finding: &Finding) -> String {
+            serde_json::to_string_pretty(&finding.histogram()).unwrap()
+        }
+
+        /// As the reference's `Histogram` reads itself by serde, not checked; or serde's words.
+        pub fn from_json(text: &[u8]) -> Result<Finding, String> {
+            serde_json::from_slice(text).map(Finding::of).map_err(|e| e.to_string())
+        }
+
+        /// A `Histogram` to be written and read many times.
+        pub struct Histogram(super::Histogram);
+
+        impl Histogram {
+            pub fn of(finding: &Finding) -> Histogram {
+                Histogram(finding.histogram())
+            }
+
+            pub fn write_to(&self, out: &mut Vec<u8>) {
+                serde_json::to_writer(out, &self.0).unwrap();
+            }
+
+            pub fn write(&self) -> Vec<u8> {
+                serde_json::to_vec(&self.0).unwrap()
+            }
+
+            pub fn from_slice(text: &[u8]) -> Histogram {
+                Histogram(serde_json::from_slice(text).unwrap())
+            }
+
+            pub fn from_str(text: &str) -> Histogram {
+                Histogram(serde_json::from_str(text).unwrap())
+            }
+
+            pub fn validate(&self) {
+                self.0.validate().unwrap();
+            }
+
+            pub fn finding(self) -> Finding {
+                Finding::of(self.0)
+            }
         }
 
         pub fn better(a: &Finding, b: &Finding) -> bool {
