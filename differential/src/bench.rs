@@ -1,8 +1,9 @@
 //! Times of our calls and of the reference's, in one run, on drawn bytes.
 
 use crate::ours;
-use crate::recordings::store_size;
-use answers::{brute_force, brute_force_threads, from_bins, transform_data, Draws};
+use crate::recordings::{numbers, store_size};
+use answers::run::sound;
+use answers::{brute_force, brute_force_threads, from_bins, to_json, transform_data, Draws, Histogram};
 use std::{hint::black_box, time::Instant};
 
 fn seconds(run: &mut dyn FnMut()) -> f64 {
@@ -78,12 +79,51 @@ fn ranking(k: usize) {
     assert_eq!(numbers, [expected.division as u64, expected.z.to_bits()]);
 }
 
+/// Of two ways the one that takes less time in a few runs.
+fn faster<'a>(ways: [&'a mut dyn FnMut(); 2]) -> &'a mut dyn FnMut() {
+    let [one, other] = ways;
+    let least = |way: &mut dyn FnMut()| (0..9).map(|_| seconds(way)).fold(f64::INFINITY, f64::min);
+    if least(one) < least(other) { one } else { other }
+}
+
+/// A finding of a width, its order drawn, as text: ours with its check; the reference's type by the faster of serde's ways, then checked too.
+fn exchange(k: usize) {
+    let finding = sound(&mut Draws::new(3), k);
+    let (text, histogram) = (to_json(&finding), Histogram::of(&finding));
+    let numbers = numbers(&finding);
+    let order: Vec<u32> = finding.order.iter().map(|&bin| bin as u32).collect();
+    let (mut scratch, mut out, mut length) = (vec![0; 1 << k], vec![0; ours::longest_text(k)], 0);
+    let mut buffer = Vec::with_capacity(text.len());
+    compare(
+        &format!("a finding of width {k}, written"),
+        &mut || length = ours::write(black_box(&numbers), &order, &mut scratch, &mut out).1,
+        faster([&mut || drop(black_box(black_box(&histogram).write())), &mut || {
+            buffer.clear();
+            black_box(&histogram).write_to(&mut buffer);
+        }]),
+    );
+    assert!(out[..length] == *text.as_bytes() && buffer == text.as_bytes());
+
+    let (mut read_order, mut read_numbers) = (vec![0; 1 << k], [0; 24]);
+    let mut read = || read_numbers = ours::read(black_box(text.as_bytes()), &mut read_order, &mut scratch).1;
+    let from_slice = || Histogram::from_slice(black_box(text.as_bytes()));
+    let from_str = || Histogram::from_str(black_box(&text));
+    compare(
+        &format!("a finding of width {k}, read"),
+        &mut read,
+        faster([&mut || drop(black_box(from_slice())), &mut || drop(black_box(from_str()))]),
+    );
+    compare(&format!("a finding of width {k}, read, and checked there too"), &mut read, &mut || black_box(from_slice()).validate());
+    assert!(read_order == order && read_numbers[4..] == numbers[4..]);
+}
+
 pub fn run() {
     println!("| Case | ours, ms | reference, ms | ratio |");
     println!("|---|---|---|---|");
     for k in [4, 8, 12, 16, 18, 20] {
         ranking(k);
     }
+    exchange(16);
     searches(8, 8, 1_000_000);
     searches(128, 2, 1_000_000);
     searches(256, 2, 10_000_000);

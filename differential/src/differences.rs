@@ -5,11 +5,11 @@ use crate::case::{same, Checked};
 use crate::ours;
 use crate::recordings::numbers;
 use answers::{
-    arguments, bottomup, compute_index, configurations, evaluate_histogram, from_bins, transform_data, validate, whole_blocks, Finding,
+    arguments, bottomup, compute_index, configurations, evaluate_histogram, from_bins, from_json, to_json, transform_data, validate, whole_blocks, Finding,
 };
 use std::panic;
 
-const ROWS: [(&str, fn() -> Checked); 20] = [
+const ROWS: [(&str, fn() -> Checked); 26] = [
     ("pieces", pieces),
     ("row words", row_words),
     ("an unfinished block", unfinished_block),
@@ -29,6 +29,12 @@ const ROWS: [(&str, fn() -> Checked); 20] = [
     ("numbers of 2^32 and more", large_numbers),
     ("entries past the width", past_the_width),
     ("a refused split", refused_split),
+    ("texts: other keys", other_keys),
+    ("texts: an array for the object", array_for_object),
+    ("texts: large block sizes", large_block_sizes_in_texts),
+    ("texts: z_score", scores_in_texts),
+    ("texts: no such object", no_such_object),
+    ("texts: rooms", rooms_of_texts),
     ("powers of one half", powers_of_one_half),
 ];
 
@@ -292,6 +298,77 @@ fn past_the_width() -> Checked {
 fn refused_split() -> Checked {
     is("split", ours::whole_blocks(&[1, 2, 3], 16, true), (8, [0; 2]))?;
     is("the reference's split", whole_blocks(&[1, 2, 3], 16, true).is_err(), true)
+}
+
+/// What our reading answers, in an order and a scratch of four entries, and whether it left them as lent.
+fn read(text: &str) -> (u32, [u64; 24], bool) {
+    let (mut order, mut scratch) = ([5; 4], [5; 4]);
+    let (refusal, finding) = ours::read(text.as_bytes(), &mut order, &mut scratch);
+    (refusal, finding, (order, scratch) == ([5; 4], [5; 4]))
+}
+
+/// That the reference reads a text as this finding and finds it sound, and that ours refuses it with 16, all as lent.
+fn there_alone(text: &str, finding: &Finding) -> Checked {
+    is("the reference's reading", from_json(text.as_bytes()).as_ref(), Ok(finding))?;
+    is("the reference's check", validate(finding), Ok(()))?;
+    is("reading", read(text), (16, [0; 24], true))
+}
+
+/// A finding of one bit of a block of 8, its text, and the text with more behind its last number.
+fn one_bit(block_size: usize) -> Finding {
+    Finding { block_size, bits: vec![3], order: vec![1, 0], division: 1, z: 0.0 }
+}
+
+fn with(more: &str) -> String {
+    to_json(&one_bit(8)).replace(":8}", &format!(":8{more}}}"))
+}
+
+fn other_keys() -> Checked {
+    there_alone(&with(",\"note\":\"lot 7\""), &one_bit(8))?;
+    there_alone(&with(",\"note\":null,\"note\":[{}]"), &one_bit(8))?;
+    there_alone(&with("").replace("bits", "b\\u0069ts"), &one_bit(8))
+}
+
+fn array_for_object() -> Checked {
+    there_alone("[[3],[1,0],1,0,8]", &one_bit(8))
+}
+
+fn large_block_sizes_in_texts() -> Checked {
+    let text = to_json(&one_bit(4104));
+    is("the reference's reading", from_json(text.as_bytes()).and_then(|found| validate(&found)), Ok(()))?;
+    is("reading", read(&text), (1, [0; 24], false))?;
+    there_alone(&to_json(&one_bit(1 << 32)), &one_bit(1 << 32))
+}
+
+fn scores_in_texts() -> Checked {
+    let scored = with(",\"z_score\":-2.5");
+    is("the reference's z", from_json(scored.as_bytes())?.z, -2.5)?;
+    is("reading", read(&scored), (0, numbers(&one_bit(8)), false))?;
+    let large = with(",\"z_score\":1e400");
+    is("the reference's words", from_json(large.as_bytes()).is_err_and(|words| words.contains("out of range")), true)?;
+    is("reading", read(&large), (0, numbers(&one_bit(8)), false))
+}
+
+fn no_such_object() -> Checked {
+    let [fraction, sign, zero] = [(":8", ":8.0"), (":8", ":-0"), (":1,", ":01,")].map(|(number, other)| with("").replace(number, other));
+    for text in [fraction, sign, zero, with(","), with(",\"block_size\":8"), with(",\"z_score\":null")] {
+        is("the reference's reading", from_json(text.as_bytes()).is_err(), true)?;
+        is("reading", read(&text), (16, [0; 24], true))?;
+    }
+    // Above 2^32 - 1: read there, and refused by the check.
+    let bits = with("").replace("[3]", "[4294967296]");
+    is("the reference's check", validate(&from_json(bits.as_bytes())?).is_err_and(|words| words.contains("outside a")), true)?;
+    is("reading", read(&bits), (16, [0; 24], true))
+}
+
+fn rooms_of_texts() -> Checked {
+    let (text, mut order, mut scratch) = (with(""), [5; 1], [5; 2]);
+    is("reading", ours::read(text.as_bytes(), &mut order, &mut scratch), (17, [0; 24]))?;
+    is("order and scratch", (order, scratch), ([5; 1], [5; 2]))?;
+    is("the text's length", text.len(), 68)?;
+    let mut out = [5; 67];
+    is("writing", ours::write(&numbers(&one_bit(8)), &[1, 0], &mut scratch, &mut out), (17, 0))?;
+    is("output and scratch", (out, scratch), ([5; 67], [0; 2]))
 }
 
 fn powers_of_one_half() -> Checked {

@@ -1,12 +1,13 @@
 //! Our calls against the reference's, on drawn cases: `differential [SEED [CASES]]`. Or on recordings that take too long to be drawn: `differential widths`,
-//! `differential capacity`, `differential wide WIDTH [reference]`. Or what is known to differ: `differential differences`. Or their times:
-//! `differential bench`. Or the stack that our calls take: `differential stack`.
+//! `differential capacity`, `differential wide WIDTH [reference]`. Or findings as text: `differential exchange [SEED [CASES]]`. Or what is known to differ:
+//! `differential differences`. Or their times: `differential bench`. Or the stack that our calls take: `differential stack`.
 
 mod account;
 mod bench;
 mod capacity;
 mod case;
 mod differences;
+mod exchange;
 mod judging;
 mod ours;
 mod rankings;
@@ -27,22 +28,30 @@ fn main() {
         Some("bench") => return bench::run(),
         Some("capacity") => return capacity::run(),
         Some("differences") => return differences::run(),
+        Some("exchange") => return exchange::run(seed(args.get(1)), cases(args.get(2), 100_000)),
         Some("stack") => return stack::run(),
         Some("wide") => return wide::run(args.get(1).expect("the width"), args.get(2).map(String::as_str)),
         Some("widths") => return widths::run(),
         _ => (),
     }
-    let seed = match first {
+    compare(seed(args.first()), cases(args.get(1), 200_000));
+}
+
+/// The seed that is given, or one from the clock.
+fn seed(arg: Option<&String>) -> u64 {
+    match arg {
         Some(arg) => arg.parse().expect("the seed is a number"),
         None => SystemTime::now().duration_since(SystemTime::UNIX_EPOCH).unwrap().as_nanos() as u64,
-    };
-    let cases = args.get(1).map_or(200_000, |arg| arg.parse().expect("the number of cases is a number"));
-    println!("seed {seed}, {cases} cases");
-    compare(seed, cases);
+    }
+}
+
+fn cases(arg: Option<&String>, default: u64) -> u64 {
+    arg.map_or(default, |arg| arg.parse().expect("the number of cases is a number"))
 }
 
 /// Draws and compares; a case that differs is made smaller and printed whole, and ends the run.
 fn compare(seed: u64, cases: u64) {
+    println!("seed {seed}, {cases} cases");
     let mut run = Run::new();
     for number in 0..cases {
         let case = Case::of_run(seed, number);

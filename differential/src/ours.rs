@@ -1,7 +1,7 @@
 //! Our calls, with answers that hold something before each, so that what a call leaves unwritten is seen.
 
 use jimrawel::calls;
-pub use jimrawel::calls::{feed, from_bins, start, validate};
+pub use jimrawel::calls::{feed, from_bins, longest_text, start, validate};
 
 /// What a search answers: its refusal and the 24 numbers of its finding.
 #[derive(Clone, Debug, PartialEq)]
@@ -35,6 +35,18 @@ pub fn rank(block_size: usize, bits: &[u32]) -> (u32, usize) {
 pub fn evaluate(finding: &[u64], order: &[u32], bytes: &[u8], scratch: &mut [u32]) -> (u32, [u64; 3]) {
     let mut evaluated = [7; 3];
     (calls::evaluate_histogram(finding, order, bytes, scratch, &mut evaluated), evaluated)
+}
+
+/// The refusal and the length of the text.
+pub fn write(finding: &[u64], order: &[u32], scratch: &mut [u32], out: &mut [u8]) -> (u32, usize) {
+    let mut length = 7;
+    (calls::write_finding(finding, order, scratch, out, &mut length), length)
+}
+
+/// The refusal and the finding's numbers.
+pub fn read(text: &[u8], order: &mut [u32], scratch: &mut [u32]) -> (u32, [u64; 24]) {
+    let mut finding = [7; 24];
+    (calls::read_finding(text, order, scratch, &mut finding), finding)
 }
 
 /// The refusal and the lengths of the two parts.

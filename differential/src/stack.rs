@@ -1,8 +1,9 @@
 //! The stack that each of our calls takes at its widest, measured: a call runs on a thread whose stack is painted before, and what it took reaches from
 //! the thread's own frame down to the last word that is no longer paint. No reference is needed.
 
-use crate::recordings::store_size;
-use answers::Draws;
+use crate::recordings::{numbers, store_size};
+use answers::run::sound;
+use answers::{to_json, Draws};
 use jimrawel::calls;
 use std::ffi::c_void;
 use std::sync::atomic::{AtomicBool, AtomicUsize, Ordering};
@@ -176,6 +177,20 @@ fn judging(table: &mut Table) {
         table.row("jimrawel_evaluate_histogram", &format!("B {block_size}, k {k}"), move || {
             assert_eq!(calls::evaluate_histogram(black_box(&finding), &order, &bytes, &mut scratch, &mut evaluated), 0);
         });
+    }
+    for k in [1, 20] {
+        let finding = sound(&mut Draws::new(7), k);
+        let (numbers, text) = (numbers(&finding), to_json(&finding).into_bytes());
+        let order: Vec<u32> = finding.order.iter().map(|&bin| bin as u32).collect();
+        let (mut scratch, mut out, mut length) = (vec![0; 1 << k], vec![0; calls::longest_text(k)], 0);
+        table.row("jimrawel_write_finding", &format!("k {k}"), move || {
+            assert_eq!(calls::write_finding(black_box(&numbers), &order, &mut scratch, &mut out, &mut length), 0);
+        });
+        let (mut order, mut scratch, mut read) = (vec![0; 1 << k], vec![0; 1 << k], [0; 24]);
+        table.row("jimrawel_read_finding", &format!("k {k}"), move || {
+            assert_eq!(calls::read_finding(black_box(&text), &mut order, &mut scratch, &mut read), 0);
+        });
+        table.row("jimrawel_longest_text", &format!("k {k}"), move || assert!(calls::longest_text(black_box(k)) > 0));
     }
     for block_size in [8, 4096] {
         let (raw, mut lengths, mut plan) = (vec![0; 100_000], [0; 2], [0; 15]);

@@ -24,6 +24,15 @@ impl Draws {
         (0..len).map(|_| self.next() as u8).collect()
     }
 
+    /// The numbers below `end` in a drawn order.
+    pub fn shuffled(&mut self, end: usize) -> Vec<usize> {
+        let mut order: Vec<usize> = (0..end).collect();
+        for i in (1..end).rev() {
+            order.swap(i, self.below(i + 1));
+        }
+        order
+    }
+
     /// A strictly increasing list of `k` numbers below `end`.
     pub fn subset(&mut self, end: usize, k: usize) -> Vec<usize> {
         let mut bits = Vec::new();

@@ -18,7 +18,7 @@ pub use sheet::Sheet;
 pub use autotest::public::configurations;
 pub use bottomup::public::{
     better, bottomup, brute_force, brute_force_threads, choose, compute_index, first_zero_bit, from_bins, from_json,
-    multi_eval_neg, negate, to_json, to_json_pretty, validate, Histogram,
+    keys, multi_eval_neg, negate, to_json, to_json_pretty, validate, Histogram,
 };
 pub use common::public::{
     arguments, bit_value_in_block, bits_block_eval, multi_eval, transform_data, whole_blocks, z_score,
@@ -120,6 +120,12 @@ mod bottomup {
         /// As the reference's `Histogram` reads itself by serde, not checked; or serde's words.
         pub fn from_json(text: &[u8]) -> Result<Finding, String> {
             serde_json::from_slice(text).map(Finding::of).map_err(|e| e.to_string())
+        }
+
+        /// The keys of an object, escapes resolved; nothing where the text is none, or has one key twice.
+        pub fn keys(text: &[u8]) -> Option<Vec<String>> {
+            let members: std::collections::BTreeMap<String, serde::de::IgnoredAny> = serde_json::from_slice(text).ok()?;
+            Some(members.into_keys().collect())
         }
 
         /// A `Histogram` to be written and read many times.

@@ -15,15 +15,6 @@ pub struct Judged {
     pub scratch: isize,
 }
 
-/// 0 to m - 1 in a drawn order.
-fn shuffled(draws: &mut Draws, m: usize) -> Vec<u32> {
-    let mut order: Vec<u32> = (0..m as u32).collect();
-    for i in (1..m).rev() {
-        order.swap(i, draws.below(i + 1));
-    }
-    order
-}
-
 impl Judged {
     pub fn draw(draws: &mut Draws) -> Judged {
         let block_size = match draws.below(10) {
@@ -43,7 +34,7 @@ impl Judged {
             width,
             bits,
             division: 1 + draws.below(m - 1) as u32,
-            order: shuffled(draws, m),
+            order: draws.shuffled(m).into_iter().map(|bin| bin as u32).collect(),
             bytes,
             scratch: draws.below(3) as isize,
         };

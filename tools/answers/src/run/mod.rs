@@ -1,9 +1,11 @@
 //! The cases of the differential run. They are drawn here and compared in `differential/`; the first of one run are stored with their answers too.
 
+mod exchange;
 mod judging;
 mod rankings;
 mod recordings;
 
+pub use exchange::{sound, Exchange};
 pub use judging::{Judged, Plan, Split};
 pub use rankings::{Rank, Ranking};
 pub use recordings::Recording;

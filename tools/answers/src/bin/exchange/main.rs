@@ -15,12 +15,3 @@ fn main() {
     writings::write(&mut sheet, &mut rules, &mut Draws::new(11));
     sheet.save();
 }
-
-/// 0 to m - 1 in a drawn order.
-fn shuffled(draws: &mut Draws, m: usize) -> Vec<usize> {
-    let mut order: Vec<usize> = (0..m).collect();
-    for i in (1..m).rev() {
-        order.swap(i, draws.below(i + 1));
-    }
-    order
-}

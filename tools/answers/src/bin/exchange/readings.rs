@@ -1,6 +1,5 @@
 //! Texts: sound ones in every shape, and damaged ones.
 
-use crate::shuffled;
 use answers::*;
 
 struct Case {
@@ -71,7 +70,7 @@ fn of_the_reference(draws: &mut Draws) -> Vec<Case> {
         add(&bottomup(&bytes, block_size, k, 1).unwrap(), j % 3);
     }
     for (j, (block_size, k)) in [(4096, 1), (4096, 2), (1000, 3), (512, 5)].into_iter().enumerate() {
-        let (bits, order) = (draws.subset(block_size, k), shuffled(draws, 1 << k));
+        let (bits, order) = (draws.subset(block_size, k), draws.shuffled(1 << k));
         let division = 1 + draws.below((1 << k) - 1);
         add(&Finding { block_size, bits, order, division, z: 0.5 }, j % 2);
     }
@@ -196,14 +195,14 @@ fn spaces(draws: &mut Draws) -> Vec<Case> {
 /// A z_score in every form of a number, and in forms that are none.
 fn scores() -> Vec<Case> {
     let numbers = [
-        "0", "-0", "7", "-7", "10", "0.0", "-0.0", "0.5", "12.3450", "1e5", "1E5", "1e+5", "1e-5", "1E+05", "-1.50E-3", "0e0", "0E-00", "-0.0e-0", "1e400", "-1e400",
-        "1e-400", "123456789012345678901234567890", "-123456789012345678901234567890.5", "4294967296", "1e99999999999999999999",
+        "0", "-0", "7", "-7", "10", "0.0", "-0.0", "0.5", "12.3450", "1e5", "1E5", "1e+5", "1e-5", "1E+05", "-1.50E-3", "0e0", "0E-00", "-0.0e-0",
+        "1e400", "-1e400", "1e-400", "123456789012345678901234567890", "-123456789012345678901234567890.5", "4294967296", "1e99999999999999999999",
         "1.7976931348623157e308", "9007199254740993",
     ];
     let others = [
-        "NaN", "-NaN", "nan", "Infinity", "-Infinity", "inf", ".5", "-.5", "1.", "-1.", "1.e5", "1e", "1E", "1e+", "1e-", "1e+-1", "1e1.5", "1e1e1", "1.5.5", "+1", "+0", "01",
-        "-01", "00", "-00", "00.5", "-", "--1", "- 1", "1-", "1+1", "0x10", "1_000", "1,5", "1f", "1d0", "e5", "null", "true", "false", "\"1\"", "\"\"", "[]", "[1]", "{}", "",
-        "1 .5", "1. 5", "1 e5", "1e 5", "1e+ 5", "\u{ff11}", "1\0", "'1'", "1/2", "1:1",
+        "NaN", "Infinity", "-Infinity", ".5", "-.5", "1.", "-1.", "1.e5", "1e", "1E", "1e+", "1e-", "1e+-1", "1e1.5", "1e1e1", "1.5.5", "+1", "+0",
+        "01", "-01", "00", "-00", "00.5", "-", "--1", "- 1", "1-", "1+1", "0x10", "1,5", "e5", "null", "true", "false", "\"1\"", "\"\"", "[]", "[1]",
+        "{}", "", "1 .5", "1. 5", "1 e5", "1e 5", "1e+ 5", "\u{ff11}", "1\0", "'1'", "1:1",
     ];
     numbers.iter().chain(&others).map(|number| and(&format!("\"z_score\":{number}"))).collect()
 }
@@ -212,8 +211,8 @@ fn scores() -> Vec<Case> {
 fn whole_numbers() -> Vec<Case> {
     let mut cases = Vec::new();
     for form in [
-        "00", "01", "08", "-0", "-1", "+1", "1.0", "1.", "0.0", "1e0", "1E1", "8e0", ".5", "0x1", "1_0", "1u", "NaN", "", "-", "4294967295", "4294967296", "4294967297", "4294967304",
-        "9999999999", "42949672950", "18446744073709551616", "18446744073709551617", "18446744073709551624",
+        "00", "01", "08", "-0", "-1", "+1", "1.0", "1.", "1e0", "1E1", ".5", "0x1", "NaN", "", "-", "4294967295", "4294967296", "4294967297", "4294967304",
+        "42949672950", "18446744073709551616", "18446744073709551617", "18446744073709551624",
     ] {
         cases.push(with(0, &format!("\"bits\":[{form}]")));
         cases.push(with(1, &format!("\"sorted_indices\":[1,{form}]")));
@@ -290,7 +289,8 @@ fn rooms() -> Vec<Case> {
             continue;
         }
         for text in [
-            text_of(&bits, &order, 2, 12), text_of(&[], &order, 2, 16), text_of(&[9, 3], &order, 2, 16), text_of(&[3, 16], &order, 2, 16), text_of(&[3], &order, 1, 16),
+            text_of(&bits, &order, 2, 12), text_of(&[], &order, 2, 16), text_of(&[9, 3], &order, 2, 16), text_of(&[3, 16], &order, 2, 16), text_of(&[3],
+            &order, 1, 16),
             text_of(&bits, &[2, 0, 0, 1], 2, 16), text_of(&bits, &order, 4, 16), text_of(&bits, &order, 2, 16) + ",",
         ] {
             cases.push(Case { text: text.into(), order: lent, scratch: 3 });
@@ -304,19 +304,29 @@ fn rooms() -> Vec<Case> {
 fn malformed() -> Vec<Case> {
     let plain = object(&PLAIN);
     let inner = &plain[1..plain.len() - 1];
-    let mut cases: Vec<Case> = ["", " ", "{}", "{", "}", "[]", "null", "0", "\"\"", "{{}}", "{,}", "[{}]", "\0", "{\"bits\"}", "{\"bits\":[]}"].map(case).into();
-    for text in [
-        format!("{plain}{plain}"), format!("{plain},"), format!("{plain}]"), format!("{plain}}}"), format!("{plain}\0"), format!("{plain}x"), format!("{plain} // end"),
-        format!("/**/{plain}"), format!("\u{feff}{plain}"), format!("{plain}\u{feff}"), format!("\0{plain}"), format!("[{plain}]"), format!("{{{plain}}}"), format!("({inner})"),
-        format!("[{inner}]"), format!("{{,{inner}}}"), format!("{{{inner},}}"), format!("{{{inner},,}}"), format!("{{{inner}"), format!("{inner}}}"), format!("{{{inner}]"),
-        plain.replace(',', ";"), plain.replace(',', ""), plain.replace(',', ",,"), plain.replace(':', "="), plain.replace('"', "'"), plain.replace('"', ""),
-        plain.replace('"', "\\\""), plain.replace("[1,0]", "[1,0,]"), plain.replace("[1,0]", "[,1,0]"), plain.replace("[1,0]", "[1,,0]"), plain.replace("[1,0]", "[1 0]"),
-        plain.replace("[1,0]", "(1,0)"), plain.replace("[1,0]", "[1,0"), plain.replace("[1,0]", "1,0]"), plain.replace("[1,0]", "[1,0]]"), plain.replace("[1,0]", "[1;0]"),
-        plain.replace("[1,0]", "{1,0}"), plain.replace("[1,0]", "[ ]"), plain.replace("[3]", "[ ]"), plain.replace("[3]", "[,]"), plain.replace("[3]", "[3,]"),
-        format!("{{\"finding\":{plain}}}"), "[[3],[1,0],1,8]".to_string(), "[[3],[1,0],1,0.5,8]".to_string(),
-    ] {
-        cases.push(case(text));
+    let mut cases: Vec<Case> =
+        ["", " ", "{}", "{", "}", "[]", "null", "0", "\"\"", "{{}}", "{,}", "[{}]", "\0", "{\"bits\"}", "{\"bits\":[]}"].map(case).into();
+    for behind in [&plain, ",", "]", "}", "\0", "x", " // end", "\u{feff}"] {
+        cases.push(case(format!("{plain}{behind}")));
     }
+    for before in ["/**/", "\u{feff}", "\0", ",", "[", "{"] {
+        cases.push(case(format!("{before}{plain}")));
+    }
+    for (before, behind) in
+        [("[{", "}]"), ("{{", "}}"), ("{\"finding\":{", "}}"), ("(", ")"), ("[", "]"), ("{,", "}"), ("{", ",}"), ("{", ",,}"), ("{", ""), ("", "}"), ("{", "]")]
+    {
+        cases.push(case(format!("{before}{inner}{behind}")));
+    }
+    for (each, other) in [(",", ";"), (",", ""), (",", ",,"), (":", "="), ("\"", "'"), ("\"", ""), ("\"", "\\\"")] {
+        cases.push(case(plain.replace(each, other)));
+    }
+    for order in ["[1,0,]", "[,1,0]", "[1,,0]", "[1 0]", "(1,0)", "[1,0", "1,0]", "[1,0]]", "[1;0]", "{1,0}", "[ ]"] {
+        cases.push(case(plain.replace("[1,0]", order)));
+    }
+    for bits in ["[ ]", "[,]", "[3,]"] {
+        cases.push(case(plain.replace("[3]", bits)));
+    }
+    cases.extend(["[[3],[1,0],1,8]", "[[3],[1,0],1,0.5,8]"].map(case));
     let utf_16: Vec<u8> = plain.bytes().flat_map(|byte| [byte, 0]).collect();
     cases.push(case(utf_16));
     cases

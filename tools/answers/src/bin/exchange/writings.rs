@@ -1,6 +1,5 @@
 //! Findings to be written, sound and unsound ones, into outputs of enough bytes and too few.
 
-use crate::shuffled;
 use answers::*;
 
 #[derive(Clone)]
@@ -54,7 +53,7 @@ fn sound(draws: &mut Draws) -> Vec<Case> {
     let mut cases = Vec::new();
     for (block_size, width) in [(8, 1), (16, 1), (8, 2), (64, 2), (4096, 2), (104, 3), (4096, 4), (1000, 5), (16, 6), (8, 8)] {
         let bins = 1 << width;
-        let order = shuffled(draws, bins);
+        let order = draws.shuffled(bins);
         let mut bits = draws.subset(block_size, width);
         bits.extend((width..20).map(|_| [0, 7, u32::MAX as usize][draws.below(3)]));
         let z = f64::from_bits([0, 1 << 63, u64::MAX, 0x4000_0000_0000_0000][draws.below(4)]);

@@ -200,10 +200,7 @@ fn drawn(draws: &mut Draws) -> Vec<Case> {
     for (block_size, k) in [(8, 1), (8, 2), (8, 8), (16, 3), (24, 5), (64, 4), (64, 7), (128, 2), (512, 10), (4096, 3), (4096, 6)] {
         for j in 0..4 {
             let bins = 1 << k;
-            let mut order: Vec<usize> = (0..bins).collect();
-            for i in (1..bins).rev() {
-                order.swap(i, draws.below(i + 1));
-            }
+            let order = draws.shuffled(bins);
             let division = match j {
                 0 => 1,
                 1 => bins - 1,
