@@ -5,7 +5,7 @@ use crate::case::{fewer, same, Checked};
 use crate::ours;
 use crate::recordings::numbers;
 use answers::run::{sound, Exchange, Judged};
-use answers::{from_json, keys, to_json, to_json_pretty, validate, Draws, Finding, Rules};
+use answers::{from_json, keys, to_json, to_json_in_report, to_json_pretty, validate, Draws, Finding, Rules};
 
 /// What stands in every entry of a lent buffer, as in tools/exchange.py.
 const LENT: u8 = 99;
@@ -91,8 +91,8 @@ fn longest(width: usize) -> Finding {
     Finding { block_size: 4096, bits: (4096 - width..4096).collect(), order: (0..bins).rev().collect(), division: bins - 1, z: 9.0 }
 }
 
-/// A sound finding: our text is the reference's to the last byte, the reference reads it as the same finding, and we read what it writes on one line and on
-/// several.
+/// A sound finding: our text is the reference's to the last byte, the reference reads it as the same finding, and we read what it writes on one line, on
+/// several and in its report.
 fn both_ways(finding: &Finding) -> Checked {
     let (order, bins) = (narrow(&finding.order), finding.order.len());
     let room = ours::longest_text(finding.bits.len());
@@ -104,7 +104,7 @@ fn both_ways(finding: &Finding) -> Checked {
     same("output past the text", out[length..].iter().all(|&byte| byte == LENT), true)?;
     let there = from_json(&out[..length])?;
     same("our text there", (&there, validate(&there)), (&plain(finding), Ok(())))?;
-    for text in [text, to_json_pretty(finding)] {
+    for text in [text, to_json_pretty(finding), to_json_in_report(finding)] {
         let half = text.len() / 2;
         let (mut order, mut scratch) = (vec![LENT as u32; half], vec![LENT as u32; half]);
         let (refusal, read) = ours::read(text.as_bytes(), &mut order, &mut scratch);

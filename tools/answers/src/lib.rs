@@ -18,7 +18,7 @@ pub use sheet::Sheet;
 pub use autotest::public::configurations;
 pub use bottomup::public::{
     better, bottomup, brute_force, brute_force_threads, choose, compute_index, first_zero_bit, from_bins, from_json,
-    keys, multi_eval_neg, negate, to_json, to_json_pretty, validate, Histogram,
+    keys, multi_eval_neg, negate, to_json, to_json_in_report, to_json_pretty, validate, Histogram,
 };
 pub use common::public::{
     arguments, bit_value_in_block, bits_block_eval, multi_eval, transform_data, whole_blocks, z_score,
@@ -115,6 +115,12 @@ mod bottomup {
         /// The same over several lines.
         pub fn to_json_pretty(finding: &Finding) -> String {
             serde_json::to_string_pretty(&finding.histogram()).unwrap()
+        }
+
+        /// The object as it stands in the reference's report, under the key dis: indented, its keys as the report has them.
+        pub fn to_json_in_report(finding: &Finding) -> String {
+            let report = serde_json::to_string_pretty(&serde_json::json!({ "dis": finding.histogram() })).unwrap();
+            report.strip_prefix("{\n  \"dis\": ").unwrap().strip_suffix("\n}").unwrap().to_string()
         }
 
         /// As the reference's `Histogram` reads itself by serde, not checked; or serde's words.

@@ -61,8 +61,7 @@ fn space(draws: &mut Draws) -> String {
 fn score(draws: &mut Draws) -> String {
     let forms = [
         "0", "-0", "1.5", "-2.75e1", "1E+05", "0e-9", "1e308", "1e400", "-1e999", "1e-999", "0e999", "123456789012345678901234567890", "1e99999999999",
-        "null", "\"1\"", "NaN", ".5", "1.",
-        "01", "+1", "1e", "[]", "-",
+        "null", "\"1\"", "NaN", ".5", "1.", "01", "+1", "1e", "[]", "-",
     ];
     let sound = draws.below(4) != 0;
     pick(draws, &forms[..if sound { 6 } else { forms.len() }])

@@ -55,12 +55,15 @@ fn same_there(text: &[u8], answer: &[Vec<u64>; 3]) {
     assert_eq!(validate(&found), Ok(()));
 }
 
-/// What the reference's search finds, as the reference writes it, on one line and on several; and drawn findings.
+/// What the reference's search finds, as the reference writes it, on one line, on several and in its report; and drawn findings.
 fn of_the_reference(draws: &mut Draws) -> Vec<Case> {
     let mut cases = Vec::new();
     let mut add = |found: &Finding, more: usize| {
         let bins = found.order.len();
-        let texts = if bins > 64 { vec![to_json(found)] } else { vec![to_json(found), to_json_pretty(found)] };
+        let mut texts = vec![to_json(found)];
+        if bins <= 16 {
+            texts.extend([to_json_pretty(found), to_json_in_report(found)]);
+        }
         for text in texts {
             cases.push(Case { text: text.into(), order: bins + more, scratch: bins + 2 * more });
         }
@@ -289,9 +292,14 @@ fn rooms() -> Vec<Case> {
             continue;
         }
         for text in [
-            text_of(&bits, &order, 2, 12), text_of(&[], &order, 2, 16), text_of(&[9, 3], &order, 2, 16), text_of(&[3, 16], &order, 2, 16), text_of(&[3],
-            &order, 1, 16),
-            text_of(&bits, &[2, 0, 0, 1], 2, 16), text_of(&bits, &order, 4, 16), text_of(&bits, &order, 2, 16) + ",",
+            text_of(&bits, &order, 2, 12),
+            text_of(&[], &order, 2, 16),
+            text_of(&[9, 3], &order, 2, 16),
+            text_of(&[3, 16], &order, 2, 16),
+            text_of(&[3], &order, 1, 16),
+            text_of(&bits, &[2, 0, 0, 1], 2, 16),
+            text_of(&bits, &order, 4, 16),
+            text_of(&bits, &order, 2, 16) + ",",
         ] {
             cases.push(Case { text: text.into(), order: lent, scratch: 3 });
         }
