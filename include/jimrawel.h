@@ -12,7 +12,8 @@
      them writes overlaps a slice of the other. A thread with 128 KB of stack can make every call: this is measured, not proved
      (differential/README.md, "The stack"). The direct search takes the most, 88 KB at width 20; no other call takes 40 KB.
    - Each call takes any numbers at all. What it cannot take it refuses: the result is the number of the first refusal that
-     applies, in the order given at the call, and 0 where there is none (enum jimrawel_refusal).
+     applies, in the order given at the call, and 0 where there is none (enum jimrawel_refusal). jimrawel_longest_text alone refuses
+     nothing and returns a number of bytes.
    - Where a call is refused, every lent entry is as it was lent, but for three things: a record that the call writes (a sampler by
      jimrawel_start, a finding, a rank, an evaluation, two lengths, a plan, a text's length; not a ranking) then has every number 0;
      after 13 and 14, and after 17 of jimrawel_write_finding, the first 2^width entries of the scratch are 0; and where

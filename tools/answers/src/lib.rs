@@ -128,7 +128,7 @@ mod bottomup {
             serde_json::from_slice(text).map(Finding::of).map_err(|e| e.to_string())
         }
 
-        /// The keys of an object, escapes resolved; nothing where the text is none, or has one key twice.
+        /// The keys of an object, escapes resolved; nothing where the text is none.
         pub fn keys(text: &[u8]) -> Option<Vec<String>> {
             let members: std::collections::BTreeMap<String, serde::de::IgnoredAny> = serde_json::from_slice(text).ok()?;
             Some(members.into_keys().collect())
