@@ -15,7 +15,7 @@ fn seconds(run: &mut dyn FnMut()) -> f64 {
 /// The least time of ours and of the reference's over a few runs in turn: more runs where one is short.
 fn compare(name: &str, ours: &mut dyn FnMut(), reference: &mut dyn FnMut()) {
     let (mut best, mut all, mut runs) = ([f64::INFINITY; 2], 0.0, 0);
-    while runs == 0 || (all < 2.0 && runs < 20) {
+    while runs == 0 || (all < 2.0 && runs < 200) {
         let times = [seconds(ours), seconds(reference)];
         best = [best[0].min(times[0]), best[1].min(times[1])];
         all += times[0] + times[1];
