@@ -24,7 +24,7 @@ use Rattle.judging.proofs.Checking.{chosen-length}
 use Rattle.exchange.specs.Grammar.{Exchanged}
 use Rattle.exchange.specs.Reader.{readText}
 use Rattle.exchange.specs.Writer.{Writable}
-use Rattle.exchange.specs.Exchange.{roomRefusal, begun, exchangedOf, findingText, writeRefusal, writtenWith, outputAfter, saidFinding, saidRefusal, readingWith, readingOf, orderAfter}
+use Rattle.exchange.specs.Exchange.{roomRefusal, begun, exchangedOf, findingText, writeRefusal, writtenWith, outputAfter, saidFinding, saidRefusal, readingWith, readingOf, readOrder}
 use Rattle.exchange.specs.Length.{longestText}
 use Rattle.exchange.specs.Theorems.{ReaderAgrees, bare, RoundTrip, AcceptedWritten, scoreless, Passes, SearchesExchange}
 use Rattle.exchange.specs.declared.writer.Written.{Written}
@@ -95,7 +95,7 @@ round-trip f order scratch out w scratch′ out′ size W z order₂ scratch₂ 
           ∙ ap (λ (o : Option Exchanged). readingOf o (length order₂) (length scratch₂)) read
           ∙ ap (λ (n : ℕ). readingWith n (saidFinding e)) free
           ∙ ap (λ (g : Finding). record { refusal = 0; finding = g }) same,
-      R .indices ∙ ap (λ (o : Option Exchanged). orderAfter o order₂) read ∙ ap (λ (t : Bool). cond t (begun order order₂) order₂) (le-leb (length order) (length order₂) h),
+      R .indices ∙ ap (λ (o : Option Exchanged). readOrder o order₂) read ∙ ap (λ (t : Bool). cond t (begun order order₂) order₂) (le-leb (length order) (length order₂) h),
     )
 
 pub accepted-written : AcceptedWritten

@@ -8,6 +8,7 @@ pub mod Stepping
 pub mod Turning
 pub mod Storing
 pub mod Scoring
+pub mod Shortcut
 pub mod Naming
 pub mod Collecting
 pub mod Completing

@@ -3,9 +3,9 @@ use mathlib.Core.Path.{_≡_}
 use mathlib.Core.Bool.{Bool, true, false, cond}
 use mathlib.Core.List.{List, []}
 use mathlib.Core.Option.{Option, none, some}
-use Prim.Native.Nat.{ℕ, _≤_}
-use lib.ListN.{length, drop}
-use Rattle.exchange.specs.Grammar.{Exchanged, Seen, seen}
+use Prim.Native.Nat.{ℕ, _+_, _≤_, _<_}
+use lib.ListN.{length, getD, drop}
+use Rattle.exchange.specs.Grammar.{Exchanged, isDigit, Seen, seen}
 use Rattle.exchange.specs.Reader.{Read, readArray}
 use Rattle.exchange.specs.declared.cursor.Place.{Place}
 use Rattle.exchange.specs.declared.words.WordAt.{WordAt}
@@ -48,6 +48,17 @@ KeyIs s o r = Got (r .ok) o (λ p. (r .name ≡ p .0) × At s (r .at) (p .1))
 abbrev pub restOf : Read ℕ → Option (List ℕ)
 restOf none = none
 restOf (some p) = some (p .1)
+
+-- n digits stand at a place
+abbrev pub DigitsAt : List ℕ → ℕ → ℕ → Type 0
+DigitsAt s at n = (i : ℕ) → i < n → isDigit (getD s (at + i) 0) ≡ true
+
+-- five of them, the first no 0, and no further one behind them
+pub record FiveDigits (s : List ℕ) (at : ℕ) : Type 0 where
+  pub within : at + 6 ≤ length s
+  pub digits : DigitsAt s at 5
+  pub leading : getD s at 0 ≡ 48 → ⊥
+  pub ended : isDigit (getD s (at + 5) 0) ≡ false
 
 -- something was read
 abbrev pub IsRead : {A : Type 0} → Option A → Type 0

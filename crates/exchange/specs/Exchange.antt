@@ -78,18 +78,18 @@ readingOf none room scratch = readingWith 16 noFinding
 readingOf (some e) room scratch = readingWith (saidRefusal e room scratch) (saidFinding e)
 
 -- the order: as lent after 16 and 17, else it begins with the indices, whatever the check says
-abbrev pub orderAfter : Option Exchanged → List ℕ → List ℕ
-orderAfter none order = order
-orderAfter (some e) order = cond (leb (length (e .indices)) (length order)) (begun (e .indices) order) order
+abbrev pub readOrder : Option Exchanged → List ℕ → List ℕ
+readOrder none order = order
+readOrder (some e) order = cond (leb (length (e .indices)) (length order)) (begun (e .indices) order) order
 
 -- the scratch: as lent after 16 and 17, else as the check leaves it
-abbrev pub scratchAfter : Option Exchanged → ℕ → List ℕ → List ℕ
-scratchAfter none room scratch = scratch
-scratchAfter (some e) room scratch =
+abbrev pub readScratch : Option Exchanged → ℕ → List ℕ → List ℕ
+readScratch none room scratch = scratch
+readScratch (some e) room scratch =
     cond (leb (length (e .indices)) room) (checkedScratch (saidFinding e) (length (e .indices)) scratch) scratch
 
 -- What a reading answers and leaves.
 pub record Reads (text order scratch : List ℕ) (r : Reading) (order′ scratch′ : List ℕ) : Type 0 where
   pub answered : r ≡ readingOf (readText text) (length order) (length scratch)
-  pub indices : order′ ≡ orderAfter (readText text) order
-  pub checked : scratch′ ≡ scratchAfter (readText text) (length order) scratch
+  pub indices : order′ ≡ readOrder (readText text) order
+  pub checked : scratch′ ≡ readScratch (readText text) (length order) scratch

@@ -2,11 +2,11 @@
 ghost use mathlib.Core.Path.{_≡_};
 ghost use mathlib.Core.Bool.{true, false};
 ghost use mathlib.Core.Option.{some};
-ghost use Prim.Native.Nat.{_-_, _≤_};
+ghost use Prim.Native.Nat.{_+_, _-_, _≤_};
 ghost use lib.ListN.{length, drop};
 ghost use Rattle.exchange.specs.Grammar.{isDigit};
 ghost use Rattle.exchange.specs.Reader.{readDigits, readWord, held};
-ghost use Rattle.exchange.specs.Cursor.{At, PlaceIs, WordIs, restOf, IsRead};
+ghost use Rattle.exchange.specs.Cursor.{At, PlaceIs, WordIs, restOf, DigitsAt, FiveDigits, IsRead};
 use crate::cursor::Place;
 use crate::cursor::nowhere;
 use crate::cursor::skip_space;
@@ -65,8 +65,59 @@ pub fn skip_more(s: &[u8], at: usize) -> usize
     i
 }
 
-// A whole number that 32 bits hold, read past and not kept: nine digits are never too many, so that its value is worked out for ten or more only.
+// Whether five digits stand at a place, as in most of a long order, and nothing more of a number.
+fn five_digits(s: &[u8], at: usize) -> bool
+    requires { ⌜ at ≤ length (now s) ⌝ }
+    ensures { λ r. ⌜ (r ≡ true → FiveDigits (now (s .entry)) at) ⌝ }
+{
+    if s.len() - at < 6 {
+        return false;
+    }
+    if is_digit(s[at + 5]) {
+        return false;
+    }
+    if s[at] == 48 {
+        return false;
+    }
+    if !four_digits(s, at) {
+        return false;
+    }
+    is_digit(s[at + 4])
+}
+
+// Whether four digits stand at a place.
+fn four_digits(s: &[u8], at: usize) -> bool
+    requires { ⌜ at + 4 ≤ length (now s) ⌝ }
+    ensures { λ r. ⌜ (r ≡ true → DigitsAt (now (s .entry)) at 4) ⌝ }
+{
+    if !is_digit(s[at]) {
+        return false;
+    }
+    if !is_digit(s[at + 1]) {
+        return false;
+    }
+    if !is_digit(s[at + 2]) {
+        return false;
+    }
+    is_digit(s[at + 3])
+}
+
+// A whole number that 32 bits hold, white space before it, read past and not kept.
 pub fn skip_word(s: &[u8], at: usize) -> Place
+    requires { ⌜ at ≤ length (now s) ⌝ }
+    ensures { λ r. ⌜ PlaceIs (now (s .entry)) (restOf (readWord (drop at (now (s .entry))))) r ⌝ }
+{
+    if five_digits(s, at) {
+        return Place {
+            ok: true,
+            at: at + 5,
+        };
+    }
+    skip_any(s, at)
+}
+
+// The same, of any length: nine digits are never too many, so that the value is worked out for ten or more only.
+fn skip_any(s: &[u8], at: usize) -> Place
     requires { ⌜ at ≤ length (now s) ⌝ }
     ensures { λ r. ⌜ PlaceIs (now (s .entry)) (restOf (readWord (drop at (now (s .entry))))) r ⌝ }
 {
