@@ -19,6 +19,7 @@ pub fn write(sheet: &mut Sheet, rules: &mut Rules, draws: &mut Draws) {
     cases.extend(spaces(draws));
     cases.extend(scores());
     cases.extend(whole_numbers());
+    cases.extend(five_digits());
     cases.extend(checked());
     cases.extend(rooms());
     cases.extend(malformed());
@@ -208,6 +209,17 @@ fn scores() -> Vec<Case> {
         "{}", "", "1 .5", "1. 5", "1 e5", "1e 5", "1e+ 5", "\u{ff11}", "1\0", "'1'", "1:1",
     ];
     numbers.iter().chain(&others).map(|number| and(&format!("\"z_score\":{number}"))).collect()
+}
+
+/// Numbers of five digits and about it, in the arrays.
+fn five_digits() -> Vec<Case> {
+    let bits = [
+        "12345", "12345,23456", "1234,56789", "10000,1", "01234", "00000", "123456", "12345 ,1", "1234a", "12a45", "12345a", "12345.0", "-12345", "12345,", "12345,,1",
+    ];
+    let indices = ["99999", "10000,99999", "1,10000,0", "09999", "1234567890", "99999\n", "9999/", "9:999", "99999e0", "99999]", "99999,"];
+    let bits = bits.map(|list| with(0, &format!("\"bits\":[{list}]")));
+    let indices = indices.map(|list| with(1, &format!("\"sorted_indices\":[{list}]")));
+    bits.into_iter().chain(indices).collect()
 }
 
 /// The numbers of the four keys: in forms that are no whole number, and about 2^32 and what wraps to a small one.
