@@ -1,4 +1,5 @@
--- What the counting crate means: a block and its bin, a sample and its counts, the plain recording, the words and the calls that fill them.
+-- What the counting crate means: a block and its bin, a sample and its counts, the plain recording, the words and the calls that fill them; and what stands in a buffer after
+-- entries were put into it.
 pub mod Block
 pub mod Sample
 pub mod Recording

@@ -29,18 +29,23 @@ Got ok (some a) P = (ok ≡ true) × P a
 
 -- ---- tokens, numbers, arrays, keys: the place behind them, and what they say
 
+-- a token: the place behind it
 abbrev pub PlaceIs : List ℕ → Option (List ℕ) → Place → Type 0
 PlaceIs s o r = Got (r .ok) o (λ t. At s (r .at) t)
 
+-- a whole number, and the place
 abbrev pub WordIs : List ℕ → Read ℕ → WordAt → Type 0
 WordIs s o r = Got (r .ok) o (λ p. (r .value ≡ p .0) × At s (r .at) (p .1))
 
+-- how many numbers, and the place
 abbrev pub CountIs : List ℕ → Read (List ℕ) → Counted → Type 0
 CountIs s o r = Got (r .ok) o (λ p. (r .count ≡ length (p .0)) × At s (r .at) (p .1))
 
+-- the same of an array, and where it begins
 abbrev pub ArrayIs : List ℕ → ℕ → Read (List ℕ) → ArrayAt → Type 0
 ArrayIs s from o r = Got (r .ok) o (λ p. (r .from ≡ from) × (r .count ≡ length (p .0)) × At s (r .at) (p .1))
 
+-- which key, and the place
 abbrev pub KeyIs : List ℕ → Read Name → KeyAt → Type 0
 KeyIs s o r = Got (r .ok) o (λ p. (r .name ≡ p .0) × At s (r .at) (p .1))
 
@@ -67,6 +72,7 @@ IsRead (some a) = Unit {0}
 
 -- ---- members: an array is held by its place and its number of entries
 
+-- the numbers that were read
 abbrev pub firstOf : Read (List ℕ) → List ℕ
 firstOf none = []
 firstOf (some p) = p .0
@@ -75,9 +81,11 @@ firstOf (some p) = p .0
 unfoldable pub numbersIn : List ℕ → List ℕ
 numbersIn s = firstOf (readArray s)
 
+-- an array that was found or was not, as its numbers
 abbrev pub listHeld : List ℕ → ArrayAt → Option (List ℕ)
 listHeld s r = cond (r .ok) (some (numbersIn (drop (r .from) s))) none
 
+-- a number that was found or was not
 abbrev pub wordHeld : WordAt → Option ℕ
 wordHeld r = cond (r .ok) (some (r .value)) none
 
@@ -90,10 +98,12 @@ pub record Counts (s : List ℕ) (r : ArrayAt) : Type 0 where
   pub within : r .from ≤ length s
   pub counted : r .count ≡ length (numbersIn (drop (r .from) s))
 
+-- so of both arrays
 pub record Sized (s : List ℕ) (f : Found) : Type 0 where
   pub bits : f .bits .ok ≡ true → Counts s (f .bits)
   pub indices : f .indices .ok ≡ true → Counts s (f .indices)
 
+-- what all members have said, and the place
 abbrev pub MembersAre : List ℕ → Read Seen → MembersAt → Type 0
 MembersAre s o r = Got (r .ok) o (λ p. (seenIn s (r .found) ≡ p .0) × Sized s (r .found) × At s (r .at) (p .1))
 
@@ -104,5 +114,6 @@ pub record Says (s : List ℕ) (f : Found) (e : Exchanged) : Type 0 where
   pub division : f .division .value ≡ e .division
   pub block : f .«block_size» .value ≡ e .block
 
+-- a text, where it is one
 abbrev pub TextIs : List ℕ → Option Exchanged → TextRead → Type 0
 TextIs s o r = Got (r .ok) o (λ e. Says s (r .found) e)

@@ -25,15 +25,18 @@ either (some a) f other = f a
 
 -- ---- white space and fixed tokens
 
+-- ws: all white space that stands first is passed
 unfoldable pub skip : List ℕ → List ℕ
 skip [] = []
 skip (c ∷ s) = cond (isSpace c) (skip s) (c ∷ s)
 
+-- the bytes k and nothing else
 unfoldable pub readExactly : List ℕ → List ℕ → Option (List ℕ)
 readExactly [] s = some s
 readExactly (c ∷ k) [] = none
 readExactly (c ∷ k) (b ∷ s) = cond (eqb b c) (readExactly k s) none
 
+-- the bytes k, white space before them
 unfoldable pub readToken : List ℕ → List ℕ → Option (List ℕ)
 readToken k s = readExactly k (skip s)
 
@@ -44,6 +47,7 @@ unfoldable pub readDigits : ℕ → List ℕ → ℕ × List ℕ
 readDigits n [] = (n, [])
 readDigits n (c ∷ s) = cond (isDigit c) (readDigits (10 * n + (c - 48)) s) (n, c ∷ s)
 
+-- int: 0 alone, or digits that do not begin with 0, as many as there are
 unfoldable pub readWhole : List ℕ → Read ℕ
 readWhole [] = none
 readWhole (c ∷ s) = cond (isDigit c) (cond (eqb c 48) (some (0, s)) (some (readDigits (c - 48) s))) none
@@ -53,25 +57,31 @@ unfoldable pub skipDigits : List ℕ → Option (List ℕ)
 skipDigits [] = none
 skipDigits (c ∷ s) = cond (isDigit c) (some (readDigits 0 (c ∷ s) .1)) none
 
+-- [ minus ]
 unfoldable pub skipMinus : List ℕ → List ℕ
 skipMinus [] = []
 skipMinus (c ∷ s) = cond (eqb c 0x2d) s (c ∷ s)
 
+-- [ minus / plus ]
 unfoldable pub skipSign : List ℕ → List ℕ
 skipSign [] = []
 skipSign (c ∷ s) = cond (eqb c 0x2b || eqb c 0x2d) s (c ∷ s)
 
+-- [ frac ]: a point wants a digit or more behind it
 unfoldable pub skipFraction : List ℕ → Option (List ℕ)
 skipFraction [] = some []
 skipFraction (c ∷ s) = cond (eqb c 0x2e) (skipDigits s) (some (c ∷ s))
 
+-- [ exp ]: so does an e, with or without a sign
 unfoldable pub skipExponent : List ℕ → Option (List ℕ)
 skipExponent [] = some []
 skipExponent (c ∷ s) = cond (isExp c) (skipDigits (skipSign s)) (some (c ∷ s))
 
+-- number = [ minus ] int [ frac ] [ exp ]
 unfoldable pub skipNumber : List ℕ → Option (List ℕ)
 skipNumber s = bind (readWhole (skipMinus s)) (λ (n, t). bind (skipFraction t) skipExponent)
 
+-- a number of any kind, white space before it
 unfoldable pub skipScore : List ℕ → Option (List ℕ)
 skipScore s = skipNumber (skip s)
 
@@ -79,6 +89,7 @@ skipScore s = skipNumber (skip s)
 abbrev pub held : ℕ × List ℕ → Read ℕ
 held r = cond (leb (r .0) 4294967295) (some r) none
 
+-- a whole number that 32 bits hold, white space before it
 unfoldable pub readWord : List ℕ → Read ℕ
 readWord s = bind (readWhole (skip s)) held
 
@@ -98,6 +109,7 @@ module _ {S : Type 0} (step : S → List ℕ → Read S) (close : List ℕ) wher
 unfoldable pub readEntry : List ℕ → List ℕ → Read (List ℕ)
 readEntry ns s = bind (readWord s) (λ (n, t). some (ns ++ (n ∷ []), t))
 
+-- an array: its bracket, then the closing one or numbers up to it
 unfoldable pub readArray : List ℕ → Read (List ℕ)
 readArray s =
     bind (readToken (ascii "[") s) (λ t. either (readToken (ascii "]") t) (λ u. some ([], u)) (readSeparated readEntry (ascii "]") [] t))
@@ -115,6 +127,7 @@ unfoldable pub readName : List Name → List ℕ → Read Name
 readName [] s = none
 readName (x ∷ xs) s = either (readToken (quoted x) s) (λ t. some (x, t)) (readName xs s)
 
+-- the keys there are
 abbrev pub names : List Name
 names = Bits ∷ SortedIndices ∷ BestDivision ∷ BlockSize ∷ ZScore ∷ []
 
@@ -135,6 +148,7 @@ readValue BlockSize (seen x i d (some b) z) s = none
 readValue ZScore (seen x i d b false) s = bind (skipScore s) (λ t. some (seen x i d b true, t))
 readValue ZScore (seen x i d b true) s = none
 
+-- a key with its colon, and the value that it wants
 unfoldable pub readMember : Seen → List ℕ → Read Seen
 readMember st s = bind (readKey s) (λ (x, t). readValue x st t)
 
@@ -146,10 +160,12 @@ whole (seen (some x) (some i) none b z) = none
 whole (seen (some x) (some i) (some d) none z) = none
 whole (seen (some x) (some i) (some d) (some b) z) = some (record { bits = x; indices = i; division = d; block = b })
 
+-- nothing is left
 abbrev pub isEmpty : List ℕ → Bool
 isEmpty [] = true
 isEmpty (c ∷ s) = false
 
+-- before the first member
 abbrev pub nothingSeen : Seen
 nothingSeen = seen none none none none false
 

@@ -71,6 +71,7 @@ pub record SearchesPass (s : Sampler) (ws′ : List ℕ) : Type 0 where
       → LayeredSearch s ws′ k first second bins order r first′ second′ bins′ order′ → r .refusal ≡ 0
       → Passes k (r .finding) (take (2 ^ k) order′)
 
+-- Theorem: after every such start and all such feeds.
 abbrev pub SearchesExchange : Type 0
 SearchesExchange =
     (B : ℕ) (ws : List ℕ) (pieces : List (List ℕ)) (answers : List ℕ) (s : Sampler) (ws′ : List ℕ)

@@ -33,6 +33,7 @@ unfoldable pub listed : List ℕ → List ℕ
 listed [] = []
 listed (n ∷ ns) = decimal n ++ behind ns
 
+-- the whole text
 unfoldable pub textOf : Exchanged → List ℕ
 textOf r =
     ascii "{\"bits\":[" ++ listed (r .bits) ++ ascii "],\"sorted_indices\":[" ++ listed (r .indices) ++ ascii "],\"best_division\":"
@@ -42,6 +43,7 @@ textOf r =
 unfoldable pub arraysText : List ℕ → List ℕ → List ℕ
 arraysText bits indices = ascii "{\"bits\":[" ++ listed bits ++ ascii "],\"sorted_indices\":[" ++ listed indices
 
+-- .. the second of them
 unfoldable pub numbersText : ℕ → ℕ → List ℕ
 numbersText division block = ascii "],\"best_division\":" ++ decimal division ++ ascii ",\"block_size\":" ++ decimal block ++ ascii "}"
 
@@ -49,6 +51,7 @@ numbersText division block = ascii "],\"best_division\":" ++ decimal division ++
 abbrev pub Words : List ℕ → Type 0
 Words ns = (i : ℕ) → i < length ns → getD ns i 0 ≤ 4294967295
 
+-- all numbers of a text are such
 pub record Fits (r : Exchanged) : Type 0 where
   pub bits : Words (r .bits)
   pub indices : Words (r .indices)
