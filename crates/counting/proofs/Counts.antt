@@ -97,7 +97,7 @@ unfolding sumTo
 sum-add f g zero = refl
 sum-add f g (suc m) = omega (arith, sum-add f g m)
 
-sum-zero : (m : ℕ) → sumTo (λ l. 0) m ≡ 0
+pub sum-zero : (m : ℕ) → sumTo (λ l. 0) m ≡ 0
 unfolding sumTo
 sum-zero zero = refl
 sum-zero (suc m) = omega (arith, sum-zero m)
@@ -153,6 +153,12 @@ count-more bit base zero bits v = ap (λ (k : ℕ). countIn bit k bits v) (add-z
 count-more bit base (suc m) bits v =
     ap (λ (k : ℕ). countIn bit k bits v) (add-suc base m)
     ∙ omega (arith, count-more bit base m bits v)
+
+-- from the first
+pub count-sum : (bit : ℕ → ℕ → ℕ) (m : ℕ) (bits : List ℕ) (v : ℕ) → countIn bit m bits v ≡ sumTo (λ l. same (binOf (bit l) bits) v) m
+unfolding sumTo countIn
+count-sum bit zero bits v = refl
+count-sum bit (suc m) bits v = ap (λ (x : ℕ). x + same (binOf (bit m) bits) v) (count-sum bit m bits v)
 
 -- no bin has more blocks than there are
 pub count-le : (bit : ℕ → ℕ → ℕ) (n : ℕ) (bits : List ℕ) (v : ℕ) → countIn bit n bits v ≤ n

@@ -10,10 +10,10 @@ use lib.ListN.{length, getD, take, drop, length-take, length-drop, List·getD-ap
 use lib.Seq.{take-suc, take-all, getD-take, getD-drop, getD-append-add, length-take-le, drop-at}
 use borrow.Rule.Slice.PartMut.{putMid, midOf, take-put}
 use Rattle.counting.specs.Block.{bitAt}
-use Rattle.counting.specs.Sample.{same, sumTo}
-use Rattle.counting.specs.Tally.{laneOf, wordAt, wordWith}
+use Rattle.counting.specs.Sample.{onward, same, sumTo}
+use Rattle.counting.specs.Tally.{laneOf, wordWith}
 use Rattle.counting.specs.Words.{storedBit}
-use Rattle.counting.specs.Rows.{RowsIn, onward, CountRoom, markedIn, Parted}
+use Rattle.counting.specs.Rows.{RowsIn, CountRoom, markedIn, Parted}
 use Rattle.counting.proofs.Marks.{partAt, stored-lt, with-row, marked-one, marked-last}
 
 -- a list and its last entry

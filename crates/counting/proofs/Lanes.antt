@@ -1,12 +1,12 @@
 -- Words as 64 lanes: the bits of an or, of an and and of a xor, and of a word of ones.
 use mathlib.Core.Path.{_≡_, sym, ap, _∙_}
-use Prim.Native.Nat.{ℕ, zero, suc, _+_, _-_, _*_, _/_, _%_, _^_, _<_, min, max}
+use Prim.Native.Nat.{ℕ, zero, suc, _+_, _-_, _*_, _/_, _%_, _^_, _≤_, _<_, min, max}
 use native.Mathlib.Omega.{arith}
 use native.Mathlib.Decide.{decLt}
 use native.Mathlib.Nat.{mod-lt, mod-eq-of-lt, div-eq-of-lt, zero-div, zero-mod, zero-lt-suc, pow-suc, mul-mod-left, mul-assoc, mul-comm, lt-of-lt-of-le}
 use lib.Arith.{digits-mod}
 use lib.Bits.{bitAnd, bitOr, bitXor, differ, and-shr, and-step, or-shr, or-step, xor-shr, xor-step}
-use lib.Pow.{pow-pos, pow-add, pow-mono, shl-shr, shl-lt, high, ones-lt, ones-split}
+use lib.Pow.{pow-pos, pow-add, pow-mono, shl-shr, shl-lt, shr-shr, high, ones-lt, ones-split}
 use Rattle.counting.specs.Block.{bitAt}
 
 pub bit-lt : (w j : ℕ) → bitAt w j < 2
@@ -70,6 +70,20 @@ moved-off v k j h other = by-order (decLt j k)
         let far : k ≡ j + suc (k - j - 1) = omega arith in
         ap (λ (n : ℕ). bitAt (v * 2 ^ n) j) far ∙ moved-below v j (k - j - 1)
     by-order (no above) = moved-above v k j h (omega arith)
+
+-- ---- a number whose first s bits were cleared has the others
+
+pub cleared-below : (w s l : ℕ) → l < s → bitAt (w / 2 ^ s * 2 ^ s) l ≡ 0
+cleared-below w s l h =
+    let far : s ≡ l + suc (s - l - 1) = omega arith in
+    ap (λ (n : ℕ). bitAt (w / 2 ^ s * 2 ^ n) l) far ∙ moved-below (w / 2 ^ s) l (s - l - 1)
+
+pub cleared-above : (w s l : ℕ) → s ≤ l → bitAt (w / 2 ^ s * 2 ^ s) l ≡ bitAt w l
+cleared-above w s l h =
+    let d = l - s in
+    let far : s + d ≡ l = omega arith in
+    rw (← far) (ap (λ (n : ℕ). n % 2)
+    (sym (shr-shr (w / 2 ^ s * 2 ^ s) s d) ∙ ap (λ (n : ℕ). n / 2 ^ d) (shl-shr (w / 2 ^ s) s) ∙ shr-shr w s d))
 
 -- ---- every bit of a word of ones is 1
 

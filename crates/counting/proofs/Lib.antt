@@ -6,4 +6,6 @@ pub mod Counts
 pub mod Marks
 pub mod Tallying
 pub mod Halves
+pub mod Stretches
+pub mod Alone
 pub mod Buffers

@@ -13,12 +13,12 @@ use lib.Pow.{pow-pos, shl-exact}
 use lib.Seq.{take-suc, take-all, getD-take, getD-drop, getD-set-same, getD-set-other}
 use borrow.Author.Count.{below-more}
 use Rattle.counting.specs.Block.{bitAt, binOf}
-use Rattle.counting.specs.Sample.{same, countIn, sumTo, allSet}
+use Rattle.counting.specs.Sample.{same, sumTo}
 use Rattle.counting.specs.Tally.{laneOf, wordAt, wordWith}
 use Rattle.counting.specs.Words.{storedBit}
-use Rattle.counting.specs.Rows.{onward, Marks, Paired, Extended, CountRoom, markedIn}
+use Rattle.counting.specs.Rows.{Marks, Paired, markedIn}
 use Rattle.counting.proofs.Lanes.{bit-lt, bit-zero, bit-and, bit-xor, bit-ones}
-use Rattle.counting.proofs.Counts.{same-le, same-step, bin-lt, bin-snoc, sum-ext, count-more, count-le}
+use Rattle.counting.proofs.Counts.{same-step, bin-lt, bin-snoc, sum-ext}
 
 -- `1 << m`, as the code has it, at a width of w bits
 pub shifted-one : (w m : ℕ) → m < w → 1 * 2 ^ m % 2 ^ w ≡ 2 ^ m
@@ -112,12 +112,13 @@ all-more f low bs b =
     sym (same-step k (f b) 1 (binOf f bs) (2 ^ k - 1) (bin-lt f low bs) below)
     ∙ sym (ap₂ same (bin-snoc f bs b) top)
 
-pub marks-none : (acc : List ℕ) (bit : ℕ → ℕ → ℕ) (n : ℕ) → ((e : ℕ) → e < n → laneOf (wordAt acc) e ≡ 1) → Marks acc bit [] n
-unfolding binOf
-marks-none acc bit n ones e h = ones e h
+-- no bit yet: as it was
+pub marks-none : (acc : List ℕ) (bit : ℕ → ℕ → ℕ) (n : ℕ) → Marks (laneOf (wordAt acc)) acc bit [] n
+unfolding laneOf binOf
+marks-none acc bit n e h = omega (arith, bit-lt (getD acc (e / 64) 0) (e % 64))
 
 -- two bits more, or the last twice, whose rows were ANDed in
-module _ (acc acc′ : List ℕ) (bit : ℕ → ℕ → ℕ) (low : (e b : ℕ) → bit e b < 2) (bits : List ℕ) (n : ℕ) where
+module _ (lane : ℕ → ℕ) (acc acc′ : List ℕ) (bit : ℕ → ℕ → ℕ) (low : (e b : ℕ) → bit e b < 2) (bits : List ℕ) (n : ℕ) where
   -- whether block e has the first i bits set
   abbrev all-of : ℕ → ℕ → ℕ
   all-of i e = same (binOf (bit e) (take i bits)) (2 ^ length (take i bits) - 1)
@@ -127,61 +128,35 @@ module _ (acc acc′ : List ℕ) (bit : ℕ → ℕ → ℕ) (low : (e b : ℕ) 
       all-more (bit e) (low e) (take i bits) (getD bits i 0)
       ∙ ap (λ (l : List ℕ). same (binOf (bit e) l) (2 ^ length l - 1)) (sym (ap (λ (j : ℕ). take j bits) (add-one i) ∙ take-suc bits i 0 h))
 
+  -- marks of which those with bit i were left, and then those with bit j
   pub marks-two : (i j : ℕ) → i < length bits → Paired i (length bits) j
       → ((e : ℕ) → e < n → laneOf (wordAt acc′) e ≡ min (min (laneOf (wordAt acc) e) (same (bit e (getD bits i 0)) 1)) (same (bit e (getD bits j 0)) 1))
-      → Marks acc bit (take i bits) n → Marks acc′ bit (take (i + 2) bits) n
+      → Marks lane acc bit (take i bits) n → Marks lane acc′ bit (take (i + 2) bits) n
   marks-two i j hi (next, last) step old e h = by-side (decLt (i + 1) (length bits))
     where
-      first : laneOf (wordAt acc′) e ≡ min (all-of (i + 1) e) (same (bit e (getD bits j 0)) 1)
-      first =
-          step e h
-          ∙ ap (λ (x : ℕ). min x (same (bit e (getD bits j 0)) 1)) (ap (λ (x : ℕ). min x (same (bit e (getD bits i 0)) 1)) (old e h) ∙ one-more i e hi)
-
-      by-side : Dec (i + 1 < length bits) → laneOf (wordAt acc′) e ≡ all-of (i + 2) e
+      by-side : Dec (i + 1 < length bits) → laneOf (wordAt acc′) e ≡ min (lane e) (all-of (i + 2) e)
       by-side (yes below) =
           let two : i + 1 + 1 ≡ i + 2 = omega arith in
-          first ∙ ap (λ (b : ℕ). min (all-of (i + 1) e) (same (bit e (getD bits b 0)) 1)) (next below) ∙ one-more (i + 1) e below ∙ ap (λ (b : ℕ). all-of b e) two
+          let second : min (all-of (i + 1) e) (same (bit e (getD bits j 0)) 1) ≡ all-of (i + 2) e =
+          ap (λ (b : ℕ). min (all-of (i + 1) e) (same (bit e (getD bits b 0)) 1)) (next below) ∙ one-more (i + 1) e below ∙ ap (λ (b : ℕ). all-of b e) two in
+          omega (arith, step e h, old e h, one-more i e hi, second)
       by-side (no above) =
           let ends : length bits ≤ i + 1 = omega arith in
           let whole : take (i + 1) bits ≡ take (i + 2) bits = take-all (i + 1) bits ends ∙ sym (take-all (i + 2) bits (omega arith)) in
-          let again : min (all-of (i + 1) e) (same (bit e (getD bits i 0)) 1) ≡ all-of (i + 1) e = omega (arith, one-more i e hi) in
-          first ∙ ap (λ (b : ℕ). min (all-of (i + 1) e) (same (bit e (getD bits b 0)) 1)) (last ends) ∙ again
-          ∙ ap (λ (l : List ℕ). same (binOf (bit e) l) (2 ^ length l - 1)) whole
-
--- the blocks from base on that have one bit more
-pub extended-more : (acc : List ℕ) (bit : ℕ → ℕ → ℕ) → ((e b : ℕ) → bit e b < 2) → (base n : ℕ) (bits : List ℕ) (b : ℕ) → Marks acc (onward base bit) bits n
-    → allSet bit (base + n) (bits ++ (b ∷ [])) ≡ allSet bit base (bits ++ (b ∷ [])) + markedIn (laneOf (wordAt acc)) (onward base bit) (b ∷ []) n 1
-unfolding markedIn binOf
-extended-more acc bit low base n bits b marked =
-    let all = bits ++ (b ∷ []) in
-    let v = 2 ^ length all - 1 in
-    count-more bit base n all v
-    ∙ ap (λ (x : ℕ). countIn bit base all v + x)
-    (sym (sum-ext (λ e. min (laneOf (wordAt acc) e) (same (bit (base + e) b + 0) 1)) (λ e. same (binOf (bit (base + e)) all) v) n
-    (λ e h. ap₂ (λ (x y : ℕ). min x (same y 1)) (marked e h) (add-zero (bit (base + e) b)) ∙ all-more (bit (base + e)) (low (base + e)) bits b)))
-
--- as many blocks more fit the counts as the sample has
-pub extended-room : (bit : ℕ → ℕ → ℕ) (base n : ℕ) (bits : List ℕ) (next : ℕ) (counts : List ℕ) → base + n ≤ 16777216
-    → Extended bit base bits next counts → CountRoom n counts
-extended-room bit base n bits next counts fits held v h =
-    let all = bits ++ ((next + v) ∷ []) in
-    omega (arith, held v h, count-le bit base all (2 ^ length all - 1))
+          let again : all-of (i + 1) e ≡ all-of (i + 2) e = ap (λ (l : List ℕ). same (binOf (bit e) l) (2 ^ length l - 1)) whole in
+          let twice : same (bit e (getD bits j 0)) 1 ≡ same (bit e (getD bits i 0)) 1 = ap (λ (b : ℕ). same (bit e (getD bits b 0)) 1) (last ends) in
+          omega (arith, step e h, old e h, one-more i e hi, again, twice)
 
 -- ---- marked blocks in a bin
 
--- with all marked, they are the bin's
-pub counted-more : (lane : ℕ → ℕ) (bit : ℕ → ℕ → ℕ) (base n : ℕ) (bits : List ℕ) (v : ℕ) → ((e : ℕ) → e < n → lane e ≡ 1)
-    → countIn bit (base + n) bits v ≡ countIn bit base bits v + markedIn lane (onward base bit) bits n v
-unfolding markedIn
-counted-more lane bit base n bits v ones =
-    count-more bit base n bits v
-    ∙ ap (λ (x : ℕ). countIn bit base bits v + x)
-    (sum-ext (λ e. same (binOf (bit (base + e)) bits) v) (λ e. min (lane e) (same (binOf (bit (base + e)) bits) v)) n
-    (λ e h. omega (arith, same-le (binOf (bit (base + e)) bits) v, ones e h)))
-
-pub counted-room : (bit : ℕ → ℕ → ℕ) (base n : ℕ) (bits bins : List ℕ) → base + n ≤ 16777216
-    → ((v : ℕ) → v < length bins → getD bins v 0 ≡ countIn bit base bits v) → CountRoom n bins
-counted-room bit base n bits bins fits held v h = omega (arith, held v h, count-le bit base bits v)
+-- marks that are left count in the bin of one bit what they were counts in the bin of all
+pub marked-all : (lane : ℕ → ℕ) (acc : List ℕ) (bit : ℕ → ℕ → ℕ) → ((e b : ℕ) → bit e b < 2) → (bits : List ℕ) (b n : ℕ) → Marks lane acc bit bits n
+    → markedIn (laneOf (wordAt acc)) bit (b ∷ []) n 1 ≡ markedIn lane bit (bits ++ (b ∷ [])) n (2 ^ length (bits ++ (b ∷ [])) - 1)
+unfolding markedIn binOf
+marked-all lane acc bit low bits b n marked =
+    let all = bits ++ (b ∷ []) in
+    sum-ext (λ e. min (laneOf (wordAt acc) e) (same (bit e b + 0) 1)) (λ e. min (lane e) (same (binOf (bit e) all) (2 ^ length all - 1))) n
+    (λ e h. omega (arith, marked e h, all-more (bit e) (low e) bits b, ap (λ (y : ℕ). same y 1) (add-zero (bit e b))))
 
 -- the bins of one bit
 pub marked-one : (lane lane′ : ℕ → ℕ) (bit : ℕ → ℕ → ℕ) (b n y : ℕ) → ((e : ℕ) → e < n → lane′ e ≡ min (lane e) (same (bit e b) y))

@@ -1,43 +1,33 @@
 -- Counting from the rows.
 use mathlib.Core.Path.{_≡_}
 use Prim.Native.Nat.{ℕ, _+_, _-_, _*_, _^_, _≤_, _<_, min}
-use mathlib.Core.List.{List, [], _∷_, _++_}
+use mathlib.Core.Bool.{cond}
+use mathlib.Core.List.{List}
+use lib.Dec.{leb}
 use lib.ListN.{length, getD}
 use Rattle.counting.specs.Block.{binOf}
-use Rattle.counting.specs.Sample.{same, sumTo, allSet}
+use Rattle.counting.specs.Sample.{same, sumTo}
 use Rattle.counting.specs.Tally.{laneOf, wordAt, wordWith}
 
 -- the row of each of the bits lies within the words
 abbrev pub RowsIn : List ℕ → ℕ → List ℕ → Type 0
 RowsIn words S bits = (i : ℕ) → i < length bits → getD bits i 0 * S + S ≤ length words
 
--- the blocks are among those that a row of S words can hold, and their number fits a count
-abbrev pub BlocksIn : ℕ → ℕ → Type 0
-BlocksIn S n = (n ≤ 64 * S) × (n ≤ 16777216)
-
--- and so are the n blocks from block 64 × start on, which fit a chunk
-abbrev pub ChunkIn : ℕ → ℕ → ℕ → Type 0
-ChunkIn S start n = (64 * start + n ≤ 64 * S) × (64 * start + n ≤ 16777216) × (n ≤ 32768)
-
--- the sample from block `base` on
-abbrev pub onward : ℕ → (ℕ → ℕ → ℕ) → ℕ → ℕ → ℕ
-onward base bit e = bit (base + e)
-
 -- how many of the first n blocks are marked by their lanes and in bin v
 unfoldable pub markedIn : (ℕ → ℕ) → (ℕ → ℕ → ℕ) → List ℕ → ℕ → ℕ → ℕ
 markedIn lane bit bits n v = sumTo (λ e. min (lane e) (same (binOf (bit e) bits) v)) n
 
--- the lanes of acc say which of the first n blocks have all the bits set
-abbrev pub Marks : List ℕ → (ℕ → ℕ → ℕ) → List ℕ → ℕ → Type 0
-Marks acc bit bits n = (e : ℕ) → e < n → laneOf (wordAt acc) e ≡ same (binOf (bit e) bits) (2 ^ length bits - 1)
+-- 1 for the lanes from `skip` on, 0 for those before
+abbrev pub from : ℕ → ℕ → ℕ
+from skip e = cond (leb skip e) 1 0
+
+-- the lanes of acc say which of the first n blocks are marked by `lane` and have all the bits set
+abbrev pub Marks : (ℕ → ℕ) → List ℕ → (ℕ → ℕ → ℕ) → List ℕ → ℕ → Type 0
+Marks lane acc bit bits n = (e : ℕ) → e < n → laneOf (wordAt acc) e ≡ min (lane e) (same (binOf (bit e) bits) (2 ^ length bits - 1))
 
 -- of len places, j is the one after i, or i where that is the last
 abbrev pub Paired : ℕ → ℕ → ℕ → Type 0
 Paired i len j = (i + 1 < len → j ≡ i + 1) × (len ≤ i + 1 → j ≡ i)
-
--- entry j counts those of the n blocks that have all the bits and bit next + j set
-abbrev pub Extended : (ℕ → ℕ → ℕ) → ℕ → List ℕ → ℕ → List ℕ → Type 0
-Extended bit n bits next counts = (j : ℕ) → j < length counts → getD counts j 0 ≡ allSet bit n (bits ++ ((next + j) ∷ []))
 
 -- n blocks more fit each count
 abbrev pub CountRoom : ℕ → List ℕ → Type 0

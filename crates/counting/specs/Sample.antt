@@ -7,6 +7,10 @@ use lib.Dec.{eqb}
 use lib.ListN.{length, getD}
 use Rattle.counting.specs.Block.{binOf}
 
+-- the sample from block `base` on
+abbrev pub onward : ℕ → (ℕ → ℕ → ℕ) → ℕ → ℕ → ℕ
+onward base bit e = bit (base + e)
+
 -- 1 where two numbers are equal, else 0
 abbrev pub same : ℕ → ℕ → ℕ
 same a b = cond (eqb a b) 1 0

@@ -23,6 +23,10 @@ startedOf B words =
 unfoldable pub startedWords : ℕ → List ℕ → List ℕ
 startedWords B ws = cond (validSize B) (replicate (length ws) 0) ws
 
+-- n: the whole blocks that the sampler has taken
+abbrev pub blocksOf : Sampler → ℕ
+blocksOf s = s .taken / blockBytes (s .«block_size»)
+
 -- 4: the sampler's B is invalid, its number of words is not the lent one, or it has taken more than capacity; else 0
 unfoldable pub samplerRefusal : Sampler → ℕ → ℕ
 samplerRefusal s words =

@@ -4,56 +4,52 @@ ghost use mathlib.Core.List.{[], _∷_, _++_};
 ghost use Prim.Native.Nat.{ℕ, _+_, _*_, _^_, _≤_, _<_};
 ghost use lib.Bits.{bitAnd};
 ghost use lib.ListN.{length, getD, replicate};
-ghost use Rattle.counting.specs.Sample.{sumTo, allSet, countsOf};
+ghost use Rattle.counting.specs.Sample.{onward, allSet, countsOf};
+ghost use Rattle.counting.specs.Chunk.{ChunkIn, chunkBit, chunkBlocks};
+ghost use Rattle.counting.specs.Stretch.{Within, span, stretchBit};
 ghost use Rattle.counting.specs.Tally.{laneOf, wordAt, wordWith};
 ghost use Rattle.counting.specs.Words.{storedBit};
-ghost use Rattle.counting.specs.Rows.{RowsIn, BlocksIn, ChunkIn, onward, Marks, Extended, CountRoom, markedIn, Paired, Parted};
+ghost use Rattle.counting.specs.Rows.{RowsIn, from, Marks, CountRoom, markedIn, Paired, Parted};
+use crate::chunk::Chunk;
+use crate::chunk::chunk_at;
+use crate::stretch::Stretch;
 use crate::tally::count_both;
 use crate::tally::count_with;
 
-// For each bit from `next` on, as many as counts has entries: how many of the first n blocks have it and all the bits set.
-pub fn multi_eval(
-    bits: &[u32],
-    next: usize,
-    words: &[u64],
-    stride: usize,
-    n: usize,
-    counts: &mut [u32],
-)
+// For each bit from `next` on, as many as counts has entries: how many blocks of the stretch have it and all the bits set.
+pub fn multi_eval(bits: &[u32], next: usize, words: &[u64], stretch: Stretch, counts: &mut [u32])
     requires { ⌜ length (now bits) < 20 ⌝ }
-    requires { ⌜ RowsIn (now words) stride (now bits) ⌝ }
-    requires { ⌜ BlocksIn stride n ⌝ }
-    requires { ⌜ (next + length (now counts) < 4294967296) × ((next + length (now counts)) * stride ≤ length (now words)) ⌝ }
-    ensures { λ _. ⌜ ((j : ℕ) → j < length (now (counts .entry)) → getD (now (counts .exit)) j 0 ≡ allSet (storedBit stride (now (words .entry))) n (now (bits .entry) ++ ((next + j) ∷ []))) ⌝ }
+    requires { ⌜ RowsIn (now words) (stretch .stride) (now bits) ⌝ }
+    requires { ⌜ Within stretch ⌝ }
+    requires { ⌜ (next + length (now counts) < 4294967296) × ((next + length (now counts)) * stretch .stride ≤ length (now words)) ⌝ }
+    ensures { λ _. ⌜ ((j : ℕ) → j < length (now (counts .entry)) → getD (now (counts .exit)) j 0 ≡ allSet (stretchBit stretch (now (words .entry))) (span stretch) (now (bits .entry) ++ ((next + j) ∷ []))) ⌝ }
 {
     clear(counts);
-    let mut start: usize = 0;
-    let mut left = n;
-    while 32768 <= left {
-        extend(bits, next, words, stride, start, 32768, counts);
+    let end = stretch.end;
+    let mut start = stretch.first / 64;
+    while 64 * start < end {
+        extend(bits, next, words, chunk_at(stretch, start), counts);
         start += 512;
-        left -= 32768;
     }
-    extend(bits, next, words, stride, start, left, counts);
 }
 
-// Counts every bin of the bits: bit i of a bin's number says whether bits[i] is set.
-pub fn multi_eval_neg(bits: &[u32], words: &[u64], stride: usize, n: usize, bins: &mut [u32])
+// Counts every bin of the bits over the stretch: bit i of a bin's number says whether bits[i] is set.
+pub fn multi_eval_neg(bits: &[u32], words: &[u64], stretch: Stretch, bins: &mut [u32])
     requires { ⌜ (1 ≤ length (now bits)) × (length (now bits) ≤ 20) × (length (now bins) ≡ 2 ^ length (now bits)) ⌝ }
-    requires { ⌜ RowsIn (now words) stride (now bits) ⌝ }
-    requires { ⌜ BlocksIn stride n ⌝ }
-    ensures { λ _. ⌜ now (bins .exit) ≡ countsOf (storedBit stride (now (words .entry))) n (now (bits .entry)) ⌝ }
+    requires { ⌜ RowsIn (now words) (stretch .stride) (now bits) ⌝ }
+    requires { ⌜ Within stretch ⌝ }
+    ensures { λ _. ⌜ now (bins .exit) ≡ countsOf (stretchBit stretch (now (words .entry))) (span stretch) (now (bits .entry)) ⌝ }
 {
     clear(bins);
-    let acc = all_marked();
-    let mut start: usize = 0;
-    let mut left = n;
-    while 32768 <= left {
-        add_bins(&acc, words, stride, start, 32768, bits, bins);
+    let end = stretch.end;
+    let mut start = stretch.first / 64;
+    let mut acc = marked_from(stretch.first % 64);
+    while 64 * start < end {
+        add_bins(&acc, words, chunk_at(stretch, start), bits, bins);
+        // Only the first chunk may begin inside a word.
+        acc[0] = u64::MAX;
         start += 512;
-        left -= 32768;
     }
-    add_bins(&acc, words, stride, start, left, bits, bins);
 }
 
 fn clear(counts: &mut [u32])
@@ -74,35 +70,40 @@ fn all_marked() -> [u64; 512]
     [u64::MAX; 512]
 }
 
-// Goes on with the n blocks from block 64 × start on. The rows of the bits are ANDed once for all counts.
-fn extend(
-    bits: &[u32],
-    next: usize,
-    words: &[u64],
-    stride: usize,
-    start: usize,
-    n: usize,
-    counts: &mut [u32],
-)
-    requires { ⌜ RowsIn (now words) stride (now bits) ⌝ }
-    requires { ⌜ ChunkIn stride start n ⌝ }
-    requires { ⌜ (next + length (now counts) < 4294967296) × ((next + length (now counts)) * stride ≤ length (now words)) ⌝ }
-    requires { ⌜ Extended (storedBit stride (now words)) (64 * start) (now bits) next (now counts) ⌝ }
-    ensures { λ _. ⌜ Extended (storedBit stride (now (words .entry))) (64 * start + n) (now (bits .entry)) next (now (counts .exit)) ⌝ }
+// The same without the first `skip`.
+fn marked_from(skip: usize) -> [u64; 512]
+    requires { ⌜ skip < 64 ⌝ }
+    ensures { λ r. ⌜ 512 ≡ length r ⌝ }
+    ensures { λ r. ⌜ ((e : ℕ) → e < 32768 → laneOf (wordAt r) e ≡ from skip e) ⌝ }
 {
     let mut acc = all_marked();
-    and_rows(&mut acc, bits, words, stride, start, n);
-    add_each(&acc, next, words, stride, start, n, counts);
+    acc[0] = (u64::MAX >> skip) << skip;
+    acc
 }
 
-// Leaves the marks of the blocks that have all the bits set. Two rows a turn, so that the marks are written half as often; the last row
-// of an odd number twice, which changes nothing.
-fn and_rows(acc: &mut [u64], bits: &[u32], words: &[u64], stride: usize, start: usize, n: usize)
-    requires { ⌜ RowsIn (now words) stride (now bits) ⌝ }
-    requires { ⌜ ChunkIn stride start n × (512 ≤ length (now acc)) ⌝ }
-    requires { ⌜ Marks (now acc) (onward (64 * start) (storedBit stride (now words))) [] n ⌝ }
-    ensures { λ _. ⌜ Marks (now (acc .exit)) (onward (64 * start) (storedBit stride (now (words .entry)))) (now (bits .entry)) n ⌝ }
+// Goes on with the blocks of a chunk. The rows of the bits are ANDed once for all counts.
+fn extend(bits: &[u32], next: usize, words: &[u64], chunk: Chunk, counts: &mut [u32])
+    requires { ⌜ RowsIn (now words) (chunk .stride) (now bits) ⌝ }
+    requires { ⌜ ChunkIn chunk ⌝ }
+    requires { ⌜ (next + length (now counts) < 4294967296) × ((next + length (now counts)) * chunk .stride ≤ length (now words)) ⌝ }
+    requires { ⌜ CountRoom (chunk .lanes) (now counts) ⌝ }
+    ensures { λ _. ⌜ ((j : ℕ) → j < length (now (counts .entry)) → getD (now (counts .exit)) j 0 ≡ getD (now (counts .entry)) j 0 + allSet (chunkBit chunk (now (words .entry))) (chunkBlocks chunk) (now (bits .entry) ++ ((next + j) ∷ []))) ⌝ }
 {
+    let mut acc = marked_from(chunk.skip);
+    and_rows(&mut acc, bits, words, chunk);
+    add_each(&acc, next, words, chunk, counts);
+}
+
+// Leaves of the marks those of the blocks that have all the bits set. Two rows a turn, so that the marks are written half as often; the last row
+// of an odd number twice, which changes nothing.
+fn and_rows(acc: &mut [u64], bits: &[u32], words: &[u64], chunk: Chunk)
+    requires { ⌜ RowsIn (now words) (chunk .stride) (now bits) ⌝ }
+    requires { ⌜ ChunkIn chunk × (512 ≤ length (now acc)) ⌝ }
+    ensures { λ _. ⌜ Marks (laneOf (wordAt (now (acc .entry)))) (now (acc .exit)) (onward (64 * chunk .start) (storedBit (chunk .stride) (now (words .entry)))) (now (bits .entry)) (chunk .lanes) ⌝ }
+{
+    let stride = chunk.stride;
+    let start = chunk.start;
+    let n = chunk.lanes;
     let m = (n + 63) / 64;
     let mut i: usize = 0;
     while i < bits.len() {
@@ -137,20 +138,15 @@ fn and_two(acc: &mut [u64], row: &[u64], other: &[u64])
 }
 
 // Adds to each count the marked blocks that have its bit set.
-fn add_each(
-    acc: &[u64],
-    next: usize,
-    words: &[u64],
-    stride: usize,
-    start: usize,
-    n: usize,
-    counts: &mut [u32],
-)
-    requires { ⌜ ChunkIn stride start n × (512 ≤ length (now acc)) ⌝ }
-    requires { ⌜ (next + length (now counts) < 4294967296) × ((next + length (now counts)) * stride ≤ length (now words)) ⌝ }
-    requires { ⌜ CountRoom n (now counts) ⌝ }
-    ensures { λ _. ⌜ ((j : ℕ) → j < length (now (counts .entry)) → getD (now (counts .exit)) j 0 ≡ getD (now (counts .entry)) j 0 + markedIn (laneOf (wordAt (now (acc .entry)))) (onward (64 * start) (storedBit stride (now (words .entry)))) ((next + j) ∷ []) n 1) ⌝ }
+fn add_each(acc: &[u64], next: usize, words: &[u64], chunk: Chunk, counts: &mut [u32])
+    requires { ⌜ ChunkIn chunk × (512 ≤ length (now acc)) ⌝ }
+    requires { ⌜ (next + length (now counts) < 4294967296) × ((next + length (now counts)) * chunk .stride ≤ length (now words)) ⌝ }
+    requires { ⌜ CountRoom (chunk .lanes) (now counts) ⌝ }
+    ensures { λ _. ⌜ ((j : ℕ) → j < length (now (counts .entry)) → getD (now (counts .exit)) j 0 ≡ getD (now (counts .entry)) j 0 + markedIn (laneOf (wordAt (now (acc .entry)))) (onward (64 * chunk .start) (storedBit (chunk .stride) (now (words .entry)))) ((next + j) ∷ []) (chunk .lanes) 1) ⌝ }
 {
+    let stride = chunk.stride;
+    let start = chunk.start;
+    let n = chunk.lanes;
     let m = (n + 63) / 64;
     let mut j: usize = 0;
     while j < counts.len() {
@@ -164,68 +160,42 @@ fn add_each(
 
 // Adds to each bin of the bits the marked blocks in it. By the last bit, so that a bin with and one without it are half the bins
 // apart: the marks of either half are ANDed once for all its bins, and every bin is counted from rows.
-fn add_bins(
-    acc: &[u64],
-    words: &[u64],
-    stride: usize,
-    start: usize,
-    n: usize,
-    bits: &[u32],
-    bins: &mut [u32],
-)
+fn add_bins(acc: &[u64], words: &[u64], chunk: Chunk, bits: &[u32], bins: &mut [u32])
     requires { ⌜ (1 ≤ length (now bits)) × (length (now bits) ≤ 20) × (length (now bins) ≡ 2 ^ length (now bits)) ⌝ }
-    requires { ⌜ RowsIn (now words) stride (now bits) ⌝ }
-    requires { ⌜ ChunkIn stride start n × (512 ≤ length (now acc)) ⌝ }
-    requires { ⌜ CountRoom n (now bins) ⌝ }
-    ensures { λ _. ⌜ ((v : ℕ) → v < length (now (bins .entry)) → getD (now (bins .exit)) v 0 ≡ getD (now (bins .entry)) v 0 + markedIn (laneOf (wordAt (now (acc .entry)))) (onward (64 * start) (storedBit stride (now (words .entry)))) (now (bits .entry)) n v) ⌝ }
+    requires { ⌜ RowsIn (now words) (chunk .stride) (now bits) ⌝ }
+    requires { ⌜ ChunkIn chunk × (512 ≤ length (now acc)) ⌝ }
+    requires { ⌜ CountRoom (chunk .lanes) (now bins) ⌝ }
+    ensures { λ _. ⌜ ((v : ℕ) → v < length (now (bins .entry)) → getD (now (bins .exit)) v 0 ≡ getD (now (bins .entry)) v 0 + markedIn (laneOf (wordAt (now (acc .entry)))) (onward (64 * chunk .start) (storedBit (chunk .stride) (now (words .entry)))) (now (bits .entry)) (chunk .lanes) v) ⌝ }
 {
+    let stride = chunk.stride;
+    let start = chunk.start;
+    let n = chunk.lanes;
     let last = bits.len() - 1;
     let at = bits[last] as usize * stride + start;
     let end = at + (n + 63) / 64;
     if last < 2 {
-        add_few(acc, words, stride, start, n, bits, bins);
+        add_few(acc, words, chunk, bits, bins);
         return;
     }
     let half = bins.len() / 2;
     let mut part = all_marked();
     and_to(&mut part, acc, &words[at..end], 0);
-    add_bins(
-        &part,
-        words,
-        stride,
-        start,
-        n,
-        &bits[..last],
-        &mut bins[half..],
-    );
+    add_bins(&part, words, chunk, &bits[..last], &mut bins[half..]);
     and_to(&mut part, acc, &words[at..end], u64::MAX);
-    add_bins(
-        &part,
-        words,
-        stride,
-        start,
-        n,
-        &bits[..last],
-        &mut bins[..half],
-    );
+    add_bins(&part, words, chunk, &bits[..last], &mut bins[..half]);
 }
 
 // The same for one bit or two, with no marks between.
-fn add_few(
-    acc: &[u64],
-    words: &[u64],
-    stride: usize,
-    start: usize,
-    n: usize,
-    bits: &[u32],
-    bins: &mut [u32],
-)
+fn add_few(acc: &[u64], words: &[u64], chunk: Chunk, bits: &[u32], bins: &mut [u32])
     requires { ⌜ (1 ≤ length (now bits)) × (length (now bits) ≤ 2) × (length (now bins) ≡ 2 ^ length (now bits)) ⌝ }
-    requires { ⌜ RowsIn (now words) stride (now bits) ⌝ }
-    requires { ⌜ ChunkIn stride start n × (512 ≤ length (now acc)) ⌝ }
-    requires { ⌜ CountRoom n (now bins) ⌝ }
-    ensures { λ _. ⌜ ((v : ℕ) → v < length (now (bins .entry)) → getD (now (bins .exit)) v 0 ≡ getD (now (bins .entry)) v 0 + markedIn (laneOf (wordAt (now (acc .entry)))) (onward (64 * start) (storedBit stride (now (words .entry)))) (now (bits .entry)) n v) ⌝ }
+    requires { ⌜ RowsIn (now words) (chunk .stride) (now bits) ⌝ }
+    requires { ⌜ ChunkIn chunk × (512 ≤ length (now acc)) ⌝ }
+    requires { ⌜ CountRoom (chunk .lanes) (now bins) ⌝ }
+    ensures { λ _. ⌜ ((v : ℕ) → v < length (now (bins .entry)) → getD (now (bins .exit)) v 0 ≡ getD (now (bins .entry)) v 0 + markedIn (laneOf (wordAt (now (acc .entry)))) (onward (64 * chunk .start) (storedBit (chunk .stride) (now (words .entry)))) (now (bits .entry)) (chunk .lanes) v) ⌝ }
 {
+    let stride = chunk.stride;
+    let start = chunk.start;
+    let n = chunk.lanes;
     let m = (n + 63) / 64;
     let low = bits[0] as usize * stride + start;
     let low_end = low + m;

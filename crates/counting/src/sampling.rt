@@ -4,7 +4,7 @@ ghost use Prim.Native.Nat.{_+_, _*_, _≤_, _<_};
 ghost use lib.ListN.{length, replicate};
 ghost use Rattle.counting.specs.Recording.{capacityBytes};
 ghost use Rattle.counting.specs.Words.{putBit, putBits, putBytes};
-ghost use Rattle.counting.specs.Sampling.{startedOf, startedWords, samplerRefusal, feedRefusal, fedOf, fedWords};
+ghost use Rattle.counting.specs.Sampling.{startedOf, startedWords, blocksOf, samplerRefusal, feedRefusal, fedOf, fedWords};
 use crate::block::valid_block_size;
 
 // A recording in progress: the block size in bits, how many words are lent, and the bytes taken so far (T).
@@ -78,6 +78,14 @@ pub fn feed(sampler: Sampler, words: &mut [u64], piece: &[u8]) -> Fed
             taken: taken + piece.len(),
         },
     }
+}
+
+// n: the whole blocks that the sampler has taken; 0 where a block would have no byte.
+pub fn blocks(sampler: Sampler) -> usize
+    ensures { λ r. ⌜ r ≡ blocksOf sampler ⌝ }
+{
+    let size = sampler.block_size / 8;
+    if size == 0 { 0 } else { sampler.taken / size }
 }
 
 // 4 where the sampler is none of these words, else 0.

@@ -2,8 +2,10 @@
 ghost use mathlib.Core.Path.{_≡_};
 ghost use mathlib.Core.Bool.{true};
 ghost use Prim.Native.Nat.{_+_, _*_, _≤_};
-ghost use Rattle.counting.specs.Rows.{RowsIn, BlocksIn};
+ghost use Rattle.counting.specs.Rows.{RowsIn};
+ghost use Rattle.counting.specs.Stretch.{Within};
 ghost use Rattle.counting_cases.specs.Fitting.{InBlock, Countable};
+use counting::stretch::Stretch;
 
 // Whether every bit lies in a block of `size` bytes.
 pub fn in_block(bits: &[u32], size: usize) -> bool
@@ -45,14 +47,17 @@ fn row_in(bit: usize, words: usize, stride: usize) -> bool
     true
 }
 
-// Whether n blocks are no more than a row of `stride` words holds, nor than can be counted.
-pub fn blocks_in(stride: usize, n: usize) -> bool
-    ensures { λ r. ⌜ (r ≡ true → BlocksIn stride n) ⌝ }
+// Whether the stretch does not end before it begins, nor after the blocks that a row holds and that can be counted.
+pub fn within(stretch: Stretch) -> bool
+    ensures { λ r. ⌜ (r ≡ true → Within stretch) ⌝ }
 {
-    if n > 16777216 {
+    if stretch.first > stretch.end {
         return false;
     }
-    if (n + 63) / 64 > stride {
+    if stretch.end > 16777216 {
+        return false;
+    }
+    if (stretch.end + 63) / 64 > stretch.stride {
         return false;
     }
     true

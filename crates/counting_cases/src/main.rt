@@ -13,10 +13,10 @@ fn main() {
 }
 
 // For the whole of standard input.
-fn room() -> [u8; 262144]
-    ensures { λ r. ⌜ 262144 ≡ length r ⌝ }
+fn room() -> [u8; 327680]
+    ensures { λ r. ⌜ 327680 ≡ length r ⌝ }
 {
-    [0; 262144]
+    [0; 327680]
 }
 
 // All cases of a text: first those of single blocks, then those of samplers.

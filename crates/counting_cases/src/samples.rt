@@ -1,15 +1,16 @@
 // Cases of samplers: B and the number of lent words; the number of pieces, for each its length and its bytes; where start is not refused, the number of
-// subsets, for each its width and its bits.
+// subsets, for each the first block and the end of a stretch, its width and its bits.
 // Answer: a line with start's refusal and, for each feed, its refusal and the bytes taken after it. Where start is not refused: a line with n; a line for
-// each row, as far as it holds blocks below n; a line for each subset with the counts of its bins and, once more, of its all-ones bin.
+// each row, as far as it holds blocks below n; a line for each subset with the counts of its bins over the stretch and, once more, of its all-ones bin.
 ghost use mathlib.Core.Path.{_≡_};
 ghost use Prim.Native.Nat.{_^_, _≤_};
 ghost use lib.ListN.{length};
-ghost use Rattle.counting.specs.Rows.{RowsIn, BlocksIn};
+ghost use Rattle.counting.specs.Rows.{RowsIn};
+ghost use Rattle.counting.specs.Stretch.{Within};
 ghost use Rattle.counting_cases.specs.Fitting.{Countable};
-use crate::fitting::blocks_in;
 use crate::fitting::countable;
 use crate::fitting::rows_in;
+use crate::fitting::within;
 use cases::feeding::dirty;
 use cases::feeding::record;
 use cases::printing::end_line;
@@ -19,6 +20,8 @@ use cases::reading::number;
 use cases::reading::numbers;
 use counting::rows::multi_eval;
 use counting::rows::multi_eval_neg;
+use counting::sampling::blocks;
+use counting::stretch::Stretch;
 
 // The number of cases, then the cases.
 pub fn replay(text: &[u8], at: usize) {
@@ -50,11 +53,11 @@ fn replay_with(text: &[u8], at: usize, block_size: usize, words: &mut [u64]) -> 
         return recorded.at;
     }
     let stride = row_words(words.len(), block_size);
-    let n = whole_blocks(recorded.sampler.taken, block_size);
+    let n = blocks(recorded.sampler);
     print(n as u64);
     end_line();
     print_rows(words, block_size, stride, n);
-    count_all(text, recorded.at, words, stride, n)
+    count_all(text, recorded.at, words, block_size, stride)
 }
 
 // The words of a row; 0 where there is no such row.
@@ -63,14 +66,6 @@ fn row_words(words: usize, block_size: usize) -> usize {
         0
     } else {
         words / block_size
-    }
-}
-
-fn whole_blocks(taken: usize, block_size: usize) -> usize {
-    if block_size < 8 {
-        0
-    } else {
-        taken / (block_size / 8)
     }
 }
 
@@ -128,22 +123,30 @@ fn beyond(left: usize) -> usize {
 }
 
 // The number of subsets, then the subsets.
-fn count_all(text: &[u8], at: usize, words: &[u64], stride: usize, n: usize) -> usize {
+fn count_all(text: &[u8], at: usize, words: &[u64], block_size: usize, stride: usize) -> usize {
     let subsets = number(text, at);
     let mut from = subsets.at;
     let mut left = subsets.value;
     while left > 0 {
-        from = count_one(text, from, words, stride, n);
+        from = count_one(text, from, words, block_size, stride);
         left -= 1;
     }
     from
 }
 
-fn count_one(text: &[u8], at: usize, words: &[u64], stride: usize, n: usize) -> usize {
+fn count_one(text: &[u8], at: usize, words: &[u64], block_size: usize, stride: usize) -> usize {
     let mut bits = [0u32; 20];
-    let width = number(text, at);
+    let first = number(text, at);
+    let end = number(text, first.at);
+    let width = number(text, end.at);
     let k = at_most(width.value, 20);
-    count_subset(text, width.at, &mut bits[..k], words, stride, n)
+    let stretch = Stretch {
+        block_size,
+        stride,
+        first: first.value as usize,
+        end: end.value as usize,
+    };
+    count_subset(text, width.at, &mut bits[..k], words, stretch)
 }
 
 // Reads the bits and counts their bins.
@@ -152,22 +155,21 @@ fn count_subset(
     at: usize,
     bits: &mut [u32],
     words: &[u64],
-    stride: usize,
-    n: usize,
+    stretch: Stretch,
 ) -> usize {
     let after = numbers(text, at, bits);
-    print_counts(bits, words, stride, n);
+    print_counts(bits, words, stretch);
     after
 }
 
-// Prints 99999999 alone where the rows do not hold the bits or the blocks, or the bits cannot be counted here.
-fn print_counts(bits: &[u32], words: &[u64], stride: usize, n: usize) {
-    if !rows_in(bits, words, stride) {
+// Prints 99999999 alone where the rows do not hold the bits or the stretch, or the bits cannot be counted here.
+fn print_counts(bits: &[u32], words: &[u64], stretch: Stretch) {
+    if !rows_in(bits, words, stretch.stride) {
         print(99999999);
         end_line();
         return;
     }
-    if !blocks_in(stride, n) {
+    if !within(stretch) {
         print(99999999);
         end_line();
         return;
@@ -177,19 +179,19 @@ fn print_counts(bits: &[u32], words: &[u64], stride: usize, n: usize) {
         end_line();
         return;
     }
-    print_bins(bits, words, stride, n);
-    print_all_set(bits, words, stride, n);
+    print_bins(bits, words, stretch);
+    print_all_set(bits, words, stretch);
     end_line();
 }
 
-fn print_bins(bits: &[u32], words: &[u64], stride: usize, n: usize)
+fn print_bins(bits: &[u32], words: &[u64], stretch: Stretch)
     requires { ⌜ Countable (now bits) ⌝ }
-    requires { ⌜ RowsIn (now words) stride (now bits) ⌝ }
-    requires { ⌜ BlocksIn stride n ⌝ }
+    requires { ⌜ RowsIn (now words) (stretch .stride) (now bits) ⌝ }
+    requires { ⌜ Within stretch ⌝ }
 {
     let mut bins = no_bins();
     let size = bin_count(bits.len());
-    print_counted(bits, words, stride, n, &mut bins[..size]);
+    print_counted(bits, words, stretch, &mut bins[..size]);
 }
 
 fn no_bins() -> [u32; 1024]
@@ -205,12 +207,12 @@ fn bin_count(k: usize) -> usize
     1 << k
 }
 
-fn print_counted(bits: &[u32], words: &[u64], stride: usize, n: usize, bins: &mut [u32])
+fn print_counted(bits: &[u32], words: &[u64], stretch: Stretch, bins: &mut [u32])
     requires { ⌜ Countable (now bits) × (length (now bins) ≡ 2 ^ length (now bits)) ⌝ }
-    requires { ⌜ RowsIn (now words) stride (now bits) ⌝ }
-    requires { ⌜ BlocksIn stride n ⌝ }
+    requires { ⌜ RowsIn (now words) (stretch .stride) (now bits) ⌝ }
+    requires { ⌜ Within stretch ⌝ }
 {
-    multi_eval_neg(bits, words, stride, n, bins);
+    multi_eval_neg(bits, words, stretch, bins);
     let mut v = 0;
     while v < bins.len() {
         print(bins[v] as u64);
@@ -219,14 +221,14 @@ fn print_counted(bits: &[u32], words: &[u64], stride: usize, n: usize, bins: &mu
 }
 
 // The bin of all ones by the other call: the last bit goes on from the others.
-fn print_all_set(bits: &[u32], words: &[u64], stride: usize, n: usize)
+fn print_all_set(bits: &[u32], words: &[u64], stretch: Stretch)
     requires { ⌜ Countable (now bits) ⌝ }
-    requires { ⌜ RowsIn (now words) stride (now bits) ⌝ }
-    requires { ⌜ BlocksIn stride n ⌝ }
+    requires { ⌜ RowsIn (now words) (stretch .stride) (now bits) ⌝ }
+    requires { ⌜ Within stretch ⌝ }
 {
     let mut counts = [0u32; 1];
     let last = bits.len() - 1;
     let next = bits[last] as usize;
-    multi_eval(&bits[..last], next, words, stride, n, &mut counts);
+    multi_eval(&bits[..last], next, words, stretch, &mut counts);
     print(counts[0] as u64);
 }

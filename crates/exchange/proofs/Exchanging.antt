@@ -12,7 +12,8 @@ use Rattle.subsets.specs.Subsets.{padded}
 use Rattle.subsets.proofs.Filling.{padded-front, padded-length}
 use Rattle.ranking.specs.Ranking.{zeroScore}
 use Rattle.counting.specs.Recording.{recording}
-use Rattle.searching.specs.Claim.{Best}
+use Rattle.counting.specs.Stretch.{stretchBytes}
+use Rattle.searching.specs.Claim.{BestIn}
 use Rattle.searching.specs.declared.finding.Finding.{Finding}
 use Rattle.searching.proofs.Refusing.{neither}
 use Rattle.searching.proofs.Claiming.{claims}
@@ -115,13 +116,13 @@ evaluated-checked f order bytes scratch e =
     let r = neither (blocksRefusal (testingBlocks f bytes)) (scratchRefusal (f .width) scratch) (q .1) in
     rw (q .0, r .1, p .1)
 
-module _ (B : ℕ) (held : List ℕ) (k : ℕ) (f : Finding) (bins order : List ℕ) (best : Best B held k f bins order)
-    (agrees : (scratch : ℕ) → 2 ^ k ≤ scratch → Agrees B held k f bins order scratch) where
+module _ (B : ℕ) (held : List ℕ) (first end k : ℕ) (f : Finding) (bins order : List ℕ) (best : BestIn B held first end k f bins order)
+    (agrees : (scratch : ℕ) → 2 ^ k ≤ scratch → Agrees B (stretchBytes B held first end) k f bins order scratch) where
   abbrev order′ : List ℕ
   order′ = take (2 ^ k) order
 
   check : (scratch : ℕ) → 2 ^ k ≤ scratch → checkRefusal f order′ scratch ≡ 0
-  check scratch h = evaluated-checked f order′ held scratch (agrees scratch h .taken)
+  check scratch h = evaluated-checked f order′ (stretchBytes B held first end) scratch (agrees scratch h .taken)
 
   facts : Writable f order′
   facts = accepted f order′ (2 ^ k) (check (2 ^ k) (omega arith))
@@ -151,14 +152,14 @@ module _ (B : ℕ) (held : List ℕ) (k : ℕ) (f : Finding) (bins order : List 
       }
 
 pub searches-exchange : SearchesExchange
-searches-exchange B ws pieces answers s ws′ session =
-    let claim = claims B ws pieces answers s ws′ session in
-    let agree = all-agree B ws pieces answers s ws′ session in
+searches-exchange B ws pieces answers s ws′ acquired =
+    let claim = claims B ws pieces answers s ws′ acquired in
+    let agree = all-agree B ws pieces answers s ws′ acquired in
     let held = recording B (length ws) pieces in
     record {
-      direct = λ k bins order r bins′ order′ S z.
-          passes B held k (r .finding) bins′ order′ (claim .direct k bins order r bins′ order′ S .best z) (agree .direct k bins order r bins′ order′ S z);
-      layered = λ k first second bins order r first′ second′ bins′ order′ S z.
-          passes B held k (r .finding) bins′ order′ (claim .layered k first second bins order r first′ second′ bins′ order′ S .best z)
-          (agree .layered k first second bins order r first′ second′ bins′ order′ S z);
+      direct = λ first end k bins order r bins′ order′ S z.
+          passes B held first end k (r .finding) bins′ order′ (claim .direct first end k bins order r bins′ order′ S .best z) (agree .direct first end k bins order r bins′ order′ S z);
+      layered = λ first end k lower upper bins order r lower′ upper′ bins′ order′ S z.
+          passes B held first end k (r .finding) bins′ order′ (claim .layered first end k lower upper bins order r lower′ upper′ bins′ order′ S .best z)
+          (agree .layered first end k lower upper bins order r lower′ upper′ bins′ order′ S z);
     }

@@ -7,7 +7,7 @@ use lib.ListN.{length, take}
 use Rattle.counting.specs.declared.sampling.Sampler.{Sampler}
 use Rattle.subsets.specs.Subsets.{padded}
 use Rattle.ranking.specs.Ranking.{zeroScore}
-use Rattle.searching.specs.Claim.{Session}
+use Rattle.searching.specs.Claim.{Acquisition}
 use Rattle.searching.specs.Search.{DirectSearch, LayeredSearch}
 use Rattle.searching.specs.declared.finding.Finding.{Finding}
 use Rattle.searching.specs.declared.finding.Searched.{Searched}
@@ -64,15 +64,15 @@ pub record Passes (k : ℕ) (f : Finding) (order : List ℕ) : Type 0 where
 -- Theorem: that holds of what each search leaves after a start that is not refused and any feeds, where the search is not refused.
 pub record SearchesPass (s : Sampler) (ws′ : List ℕ) : Type 0 where
   pub direct :
-      (k : ℕ) (bins order : List ℕ) (r : Searched) (bins′ order′ : List ℕ) → DirectSearch s ws′ k bins order r bins′ order′ → r .refusal ≡ 0
+      (first end k : ℕ) (bins order : List ℕ) (r : Searched) (bins′ order′ : List ℕ) → DirectSearch s ws′ first end k bins order r bins′ order′ → r .refusal ≡ 0
       → Passes k (r .finding) (take (2 ^ k) order′)
   pub layered :
-      (k : ℕ) (first second bins order : List ℕ) (r : Searched) (first′ second′ bins′ order′ : List ℕ)
-      → LayeredSearch s ws′ k first second bins order r first′ second′ bins′ order′ → r .refusal ≡ 0
+      (first end k : ℕ) (lower upper bins order : List ℕ) (r : Searched) (lower′ upper′ bins′ order′ : List ℕ)
+      → LayeredSearch s ws′ first end k lower upper bins order r lower′ upper′ bins′ order′ → r .refusal ≡ 0
       → Passes k (r .finding) (take (2 ^ k) order′)
 
 -- Theorem: after every such start and all such feeds.
 abbrev pub SearchesExchange : Type 0
 SearchesExchange =
     (B : ℕ) (ws : List ℕ) (pieces : List (List ℕ)) (answers : List ℕ) (s : Sampler) (ws′ : List ℕ)
-    → Session B ws pieces answers s ws′ → SearchesPass s ws′
+    → Acquisition B ws pieces answers s ws′ → SearchesPass s ws′

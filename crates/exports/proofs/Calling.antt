@@ -80,38 +80,38 @@ answered a b finding finding′ e w =
     }
 
 pub direct-made :
-    (sampler ws : List ℕ) (k : ℕ) (bins order finding : List ℕ) (given : Sampler) (a : Searched) (bins′ order′ finding′ : List ℕ)
+    (sampler ws : List ℕ) (first end k : ℕ) (bins order finding : List ℕ) (given : Sampler) (a : Searched) (bins′ order′ finding′ : List ℕ)
     → 3 ≤ length sampler
     → 24 ≤ length finding
     → given ≡ samplerOf sampler
-    → DirectSearch given ws k bins order a bins′ order′
+    → DirectSearch given ws first end k bins order a bins′ order′
     → finding′ ≡ written (findingNumbers (a .finding)) finding
-    → DirectCall sampler ws k bins order finding (a .refusal) bins′ order′ finding′
-direct-made sampler ws k bins order finding given a bins′ order′ finding′ room space g d w =
-    let s : DirectSearch (samplerOf sampler) ws k bins order a bins′ order′ = subst (λ (x : Sampler). DirectSearch x ws k bins order a bins′ order′) g d in
+    → DirectCall sampler ws first end k bins order finding (a .refusal) bins′ order′ finding′
+direct-made sampler ws first end k bins order finding given a bins′ order′ finding′ room space g d w =
+    let s : DirectSearch (samplerOf sampler) ws first end k bins order a bins′ order′ = subst (λ (x : Sampler). DirectSearch x ws first end k bins order a bins′ order′) g d in
     record {
       made = λ h i. (record { answered = refl; counted = s .counted; ordered = s .ordered }, answered a _ finding finding′ (s .answered) w);
       short = λ h. absurd (neither room space h);
     }
 
 pub direct-short :
-    (sampler ws : List ℕ) (k : ℕ) (bins order finding : List ℕ)
+    (sampler ws : List ℕ) (first end k : ℕ) (bins order finding : List ℕ)
     → (length sampler < 3) ⊎ (length finding < 24)
-    → DirectCall sampler ws k bins order finding 25 bins order finding
-direct-short sampler ws k bins order finding h =
+    → DirectCall sampler ws first end k bins order finding 25 bins order finding
+direct-short sampler ws first end k bins order finding h =
     record { made = λ m n. absurd (neither m n h); short = λ s. (refl, refl, refl, refl) }
 
 pub layered-made :
-    (sampler ws : List ℕ) (k : ℕ) (first second bins order finding : List ℕ) (given : Sampler) (a : Searched) (first′ second′ bins′ order′ finding′ : List ℕ)
+    (sampler ws : List ℕ) (first end k : ℕ) (lower upper bins order finding : List ℕ) (given : Sampler) (a : Searched) (lower′ upper′ bins′ order′ finding′ : List ℕ)
     → 3 ≤ length sampler
     → 24 ≤ length finding
     → given ≡ samplerOf sampler
-    → LayeredSearch given ws k first second bins order a first′ second′ bins′ order′
+    → LayeredSearch given ws first end k lower upper bins order a lower′ upper′ bins′ order′
     → finding′ ≡ written (findingNumbers (a .finding)) finding
-    → LayeredCall sampler ws k first second bins order finding (a .refusal) first′ second′ bins′ order′ finding′
-layered-made sampler ws k first second bins order finding given a first′ second′ bins′ order′ finding′ room space g d w =
-    let s : LayeredSearch (samplerOf sampler) ws k first second bins order a first′ second′ bins′ order′ =
-    subst (λ (x : Sampler). LayeredSearch x ws k first second bins order a first′ second′ bins′ order′) g d in
+    → LayeredCall sampler ws first end k lower upper bins order finding (a .refusal) lower′ upper′ bins′ order′ finding′
+layered-made sampler ws first end k lower upper bins order finding given a lower′ upper′ bins′ order′ finding′ room space g d w =
+    let s : LayeredSearch (samplerOf sampler) ws first end k lower upper bins order a lower′ upper′ bins′ order′ =
+    subst (λ (x : Sampler). LayeredSearch x ws first end k lower upper bins order a lower′ upper′ bins′ order′) g d in
     record {
       made = λ h i. (
         record {
@@ -124,10 +124,10 @@ layered-made sampler ws k first second bins order finding given a first′ secon
     }
 
 pub layered-short :
-    (sampler ws : List ℕ) (k : ℕ) (first second bins order finding : List ℕ)
+    (sampler ws : List ℕ) (first end k : ℕ) (lower upper bins order finding : List ℕ)
     → (length sampler < 3) ⊎ (length finding < 24)
-    → LayeredCall sampler ws k first second bins order finding 25 first second bins order finding
-layered-short sampler ws k first second bins order finding h =
+    → LayeredCall sampler ws first end k lower upper bins order finding 25 lower upper bins order finding
+layered-short sampler ws first end k lower upper bins order finding h =
     record { made = λ m n. absurd (neither m n h); short = λ s. (refl, refl, refl, refl, refl, refl) }
 
 -- ---- judging

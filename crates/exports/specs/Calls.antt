@@ -2,14 +2,16 @@
 -- Where a slice has no room for its record the number is 25, and nothing is called or written.
 use mathlib.Core.Path.{_≡_}
 use Prim.Native.Nat.{ℕ, _≤_, _<_}
-use mathlib.Core.Bool.{Bool}
+use mathlib.Core.Bool.{Bool, cond}
 use mathlib.Core.List.{List, [], _∷_}
 use mathlib.Core.Logic.{_⊎_}
+use lib.Dec.{leb}
 use lib.ListN.{length}
-use Rattle.counting.specs.Sampling.{startedOf, startedWords, fedOf, fedWords}
+use Rattle.counting.specs.Sampling.{startedOf, startedWords, blocksOf, fedOf, fedWords}
+use Rattle.counting.specs.Stretch.{stretchOf, stretchBit, span}
 use Rattle.counting.specs.declared.sampling.Sampler.{Sampler}
 use Rattle.searching.specs.Refusal.{directRefusal, layeredRefusal}
-use Rattle.searching.specs.Search.{answerOf, sampleOf, blocksOf, DirectSearch, LayeredSearch}
+use Rattle.searching.specs.Search.{answerOf, DirectSearch, LayeredSearch}
 use Rattle.searching.specs.declared.finding.Searched.{Searched}
 use Rattle.judging.specs.Check.{checkRefusal, checkedScratch}
 use Rattle.judging.specs.Evaluation.{evaluatedOf, evaluatedScratch}
@@ -37,40 +39,50 @@ pub record FeedCall (sampler ws piece : List ℕ) (r : ℕ) (sampler′ ws′ : 
       × (sampler′ ≡ written (samplerNumbers (fedOf (samplerOf sampler) (length ws) (length piece) .sampler)) sampler)
   pub short : length sampler < 3 → (r ≡ shortRecord) × (ws′ ≡ ws) × (sampler′ ≡ sampler)
 
+-- n of the sampler read from the slice; 0 where the slice is too short for one
+unfoldable pub blocksCall : List ℕ → ℕ
+blocksCall sampler = cond (leb 3 (length sampler)) (blocksOf (samplerOf sampler)) 0
+
 -- the answer a: its refusal r returned, its finding written
 pub record Answered (a : Searched) (finding : List ℕ) (r : ℕ) (finding′ : List ℕ) : Type 0 where
   pub refusal : r ≡ a .refusal
   pub wrote : finding′ ≡ written (findingNumbers (a .finding)) finding
 
+-- what a search of the blocks from `first` to before `end` answers, with the refusal r
+abbrev pub stretchAnswer : ℕ → Sampler → List ℕ → ℕ → ℕ → ℕ → Searched
+stretchAnswer r s ws first end k =
+    let x = stretchOf s (length ws) first end in
+    answerOf r (stretchBit x ws) (span x) (s .«block_size») k
+
 -- what the direct search answers
-abbrev pub directAnswer : Sampler → List ℕ → ℕ → List ℕ → List ℕ → Searched
-directAnswer s ws k bins order =
-    answerOf (directRefusal s (length ws) k (length bins) (length order)) (sampleOf s ws) (blocksOf s) (s .«block_size») k
+abbrev pub directAnswer : Sampler → List ℕ → ℕ → ℕ → ℕ → List ℕ → List ℕ → Searched
+directAnswer s ws first end k bins order =
+    stretchAnswer (directRefusal s (length ws) first end k (length bins) (length order)) s ws first end k
 
 -- `brute_force_threads`, the sampler read from one slice and the finding written to another
-pub record DirectCall (sampler ws : List ℕ) (k : ℕ) (bins order finding : List ℕ) (r : ℕ) (bins′ order′ finding′ : List ℕ) : Type 0 where
+pub record DirectCall (sampler ws : List ℕ) (first end k : ℕ) (bins order finding : List ℕ) (r : ℕ) (bins′ order′ finding′ : List ℕ) : Type 0 where
   pub made :
       3 ≤ length sampler
       → 24 ≤ length finding
-      → DirectSearch (samplerOf sampler) ws k bins order (directAnswer (samplerOf sampler) ws k bins order) bins′ order′
-      × Answered (directAnswer (samplerOf sampler) ws k bins order) finding r finding′
+      → DirectSearch (samplerOf sampler) ws first end k bins order (directAnswer (samplerOf sampler) ws first end k bins order) bins′ order′
+      × Answered (directAnswer (samplerOf sampler) ws first end k bins order) finding r finding′
   pub short : (length sampler < 3) ⊎ (length finding < 24) → (r ≡ shortRecord) × (bins′ ≡ bins) × (order′ ≡ order) × (finding′ ≡ finding)
 
 -- what the layered search answers
-abbrev pub layeredAnswer : Sampler → List ℕ → ℕ → List ℕ → List ℕ → List ℕ → List ℕ → Searched
-layeredAnswer s ws k first second bins order =
-    answerOf (layeredRefusal s (length ws) k (length first) (length second) (length bins) (length order)) (sampleOf s ws) (blocksOf s) (s .«block_size») k
+abbrev pub layeredAnswer : Sampler → List ℕ → ℕ → ℕ → ℕ → List ℕ → List ℕ → List ℕ → List ℕ → Searched
+layeredAnswer s ws first end k lower upper bins order =
+    stretchAnswer (layeredRefusal s (length ws) first end k (length lower) (length upper) (length bins) (length order)) s ws first end k
 
 -- `brute_force`, in the same way
-pub record LayeredCall (sampler ws : List ℕ) (k : ℕ) (first second bins order finding : List ℕ) (r : ℕ) (first′ second′ bins′ order′ finding′ : List ℕ) : Type 0 where
+pub record LayeredCall (sampler ws : List ℕ) (first end k : ℕ) (lower upper bins order finding : List ℕ) (r : ℕ) (lower′ upper′ bins′ order′ finding′ : List ℕ) : Type 0 where
   pub made :
       3 ≤ length sampler
       → 24 ≤ length finding
-      → LayeredSearch (samplerOf sampler) ws k first second bins order (layeredAnswer (samplerOf sampler) ws k first second bins order) first′ second′ bins′ order′
-      × Answered (layeredAnswer (samplerOf sampler) ws k first second bins order) finding r finding′
+      → LayeredSearch (samplerOf sampler) ws first end k lower upper bins order (layeredAnswer (samplerOf sampler) ws first end k lower upper bins order) lower′ upper′ bins′ order′
+      × Answered (layeredAnswer (samplerOf sampler) ws first end k lower upper bins order) finding r finding′
   pub short :
       (length sampler < 3) ⊎ (length finding < 24)
-      → (r ≡ shortRecord) × (first′ ≡ first) × (second′ ≡ second) × (bins′ ≡ bins) × (order′ ≡ order) × (finding′ ≡ finding)
+      → (r ≡ shortRecord) × (lower′ ≡ lower) × (upper′ ≡ upper) × (bins′ ≡ bins) × (order′ ≡ order) × (finding′ ≡ finding)
 
 -- `validate`, the finding read from the slice
 pub record CheckCall (finding order scratch : List ℕ) (r : ℕ) (scratch′ : List ℕ) : Type 0 where

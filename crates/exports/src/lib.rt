@@ -4,7 +4,7 @@ ghost use mathlib.Core.Path.{_≡_};
 ghost use lib.ListN.{length};
 ghost use Rattle.subsets.specs.Rank.{rankedOf};
 ghost use Rattle.exchange.specs.Length.{longestText};
-ghost use Rattle.exports.specs.Calls.{StartCall, FeedCall, DirectCall, LayeredCall, CheckCall, EvaluateCall, WriteCall, ReadCall, SplitCall, PlanCall};
+ghost use Rattle.exports.specs.Calls.{StartCall, FeedCall, blocksCall, DirectCall, LayeredCall, CheckCall, EvaluateCall, WriteCall, ReadCall, SplitCall, PlanCall};
 ghost use Rattle.exports.specs.Single.{RankingCall};
 use crate::findings::evaluate_lent;
 use crate::findings::validate_lent;
@@ -18,6 +18,7 @@ use crate::records::write_plan;
 use crate::records::write_sampler;
 use crate::single::ranking_refusal;
 use crate::single::total_of;
+use counting::sampling::blocks;
 use counting::sampling::feed;
 use counting::sampling::start;
 use exchange::reader::read_finding;
@@ -61,17 +62,30 @@ pub extern "C" fn jimrawel_feed(sampler: &mut [u64], words: &mut [u64], piece: &
     fed.refusal
 }
 
-// The direct search. Refusals 25, 4, 2, 3, 7.
+// n: the whole blocks that the sampler has taken; 0 where the slice is too short for one.
+#[no_mangle]
+pub extern "C" fn jimrawel_blocks(sampler: &[u64]) -> usize
+    ensures { λ r. ⌜ r ≡ blocksCall (now (sampler .entry)) ⌝ }
+{
+    if sampler.len() < 3 {
+        return 0;
+    }
+    blocks(read_sampler(sampler))
+}
+
+// The direct search of the blocks from `first` to before `end`. Refusals 25, 4, 18, 2, 3, 7.
 #[no_mangle]
 pub extern "C" fn jimrawel_brute_force_threads(
     sampler: &[u64],
     words: &[u64],
+    first: usize,
+    end: usize,
     k: usize,
     bins: &mut [u32],
     order: &mut [u32],
     finding: &mut [u64],
 ) -> u32
-    ensures { λ r. ⌜ DirectCall (now (sampler .entry)) (now (words .entry)) k (now (bins .entry)) (now (order .entry)) (now (finding .entry)) r (now (bins .exit)) (now (order .exit)) (now (finding .exit)) ⌝ }
+    ensures { λ r. ⌜ DirectCall (now (sampler .entry)) (now (words .entry)) first end k (now (bins .entry)) (now (order .entry)) (now (finding .entry)) r (now (bins .exit)) (now (order .exit)) (now (finding .exit)) ⌝ }
 {
     if sampler.len() < 3 {
         return 25;
@@ -79,24 +93,26 @@ pub extern "C" fn jimrawel_brute_force_threads(
     if finding.len() < 24 {
         return 25;
     }
-    let searched = brute_force_threads(read_sampler(sampler), words, k, bins, order);
+    let searched = brute_force_threads(read_sampler(sampler), words, first, end, k, bins, order);
     write_finding(searched.finding, finding);
     searched.refusal
 }
 
-// The layered search. Refusals 25, 4, 2, 3, 6, 7.
+// The layered search of these blocks. Refusals 25, 4, 18, 2, 3, 6, 7.
 #[no_mangle]
 pub extern "C" fn jimrawel_brute_force(
     sampler: &[u64],
     words: &[u64],
+    first: usize,
+    end: usize,
     k: usize,
-    first: &mut [u32],
-    second: &mut [u32],
+    lower: &mut [u32],
+    upper: &mut [u32],
     bins: &mut [u32],
     order: &mut [u32],
     finding: &mut [u64],
 ) -> u32
-    ensures { λ r. ⌜ LayeredCall (now (sampler .entry)) (now (words .entry)) k (now (first .entry)) (now (second .entry)) (now (bins .entry)) (now (order .entry)) (now (finding .entry)) r (now (first .exit)) (now (second .exit)) (now (bins .exit)) (now (order .exit)) (now (finding .exit)) ⌝ }
+    ensures { λ r. ⌜ LayeredCall (now (sampler .entry)) (now (words .entry)) first end k (now (lower .entry)) (now (upper .entry)) (now (bins .entry)) (now (order .entry)) (now (finding .entry)) r (now (lower .exit)) (now (upper .exit)) (now (bins .exit)) (now (order .exit)) (now (finding .exit)) ⌝ }
 {
     if sampler.len() < 3 {
         return 25;
@@ -104,7 +120,17 @@ pub extern "C" fn jimrawel_brute_force(
     if finding.len() < 24 {
         return 25;
     }
-    let searched = brute_force(read_sampler(sampler), words, k, first, second, bins, order);
+    let searched = brute_force(
+        read_sampler(sampler),
+        words,
+        first,
+        end,
+        k,
+        lower,
+        upper,
+        bins,
+        order,
+    );
     write_finding(searched.finding, finding);
     searched.refusal
 }

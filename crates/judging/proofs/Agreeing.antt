@@ -1,8 +1,8 @@
--- A finding evaluated on the recording that it was found in (`findings-agree`), and so after every session (`all-agree`).
+-- A finding evaluated on the recording that it was found in (`findings-agree`), and so after every acquisition (`all-agree`).
 use mathlib.Core.Path.{_≡_, refl, sym, ap, _∙_, subst}
 use mathlib.Core.Bool.{Bool, true, false, cond}
 use mathlib.Core.List.{List}
-use Prim.Native.Nat.{ℕ, zero, suc, _^_, _≤_, _<_}
+use Prim.Native.Nat.{ℕ, _^_, _≤_, _<_}
 use native.Mathlib.Nat.{le-trans, min-le-right}
 use native.Mathlib.Omega.{arith}
 use lib.ListN.{length, take}
@@ -11,9 +11,11 @@ use Rattle.counting.specs.Block.{validSize}
 use Rattle.counting.specs.Recording.{recording, blocksIn, recordedBit}
 use Rattle.counting.specs.Sample.{total}
 use Rattle.counting.specs.Sampling.{startedOf}
+use Rattle.counting.specs.Stretch.{stretchBytes}
 use Rattle.counting.specs.declared.sampling.Sampler.{Sampler}
 use Rattle.counting.specs.declared.sampling.Started.{Started}
 use Rattle.counting.proofs.Accepted.{valid-facts, room-blocks}
+use Rattle.counting.proofs.Alone.{stretches-alone}
 use Rattle.counting.proofs.Recorded.{all-recorded}
 use Rattle.scoring.specs.Halves.{part}
 use Rattle.scoring.specs.Score.{zScore, abs}
@@ -25,17 +27,17 @@ use Rattle.ranking.proofs.Totals.{order-length}
 use Rattle.subsets.specs.Bits.{validWidth}
 use Rattle.subsets.proofs.Testing.{not-refused}
 use Rattle.searching.proofs.Filled.{length-counts}
-use Rattle.searching.proofs.Refusing.{direct-free, layered-free}
+use Rattle.searching.proofs.Refusing.{SearchFree, direct-free, layered-free, said-is}
 use Rattle.searching.proofs.Claiming.{claims}
-use Rattle.searching.specs.Claim.{Session, fresh, next, Best}
-use Rattle.searching.specs.Refusal.{directRefusal, layeredRefusal}
-use Rattle.searching.specs.Search.{answerOf, sampleOf, blocksOf}
+use Rattle.searching.proofs.Stretches.{whole-recordings, best-alone}
+use Rattle.searching.specs.Claim.{Acquisition, fresh, next, BestIn, BestOf}
+use Rattle.searching.specs.Search.{StretchSearch}
 use Rattle.searching.specs.declared.finding.Searched.{Searched}
 use Rattle.searching.specs.declared.finding.Finding.{Finding}
 use Rattle.judging.specs.Permutation.{eachOnce, Permutation}
 use Rattle.judging.specs.Check.{chosen, limitRefusal, lengthRefusal, shapeRefusal, scratchRefusal, divisionRefusal, orderRefusal}
 use Rattle.judging.specs.Evaluation.{countsIn, positiveOf, positiveIn, zIn, blocksRefusal, earlyEvaluationRefusal, evaluationRefusal}
-use Rattle.judging.specs.Agreement.{FindingsAgree, AllAgree}
+use Rattle.judging.specs.Agreement.{Agrees, FindingsAgree, AllAgree}
 use Rattle.judging.proofs.Once.{once-permutes}
 
 valid-width : (k : ℕ) → 1 ≤ k → k ≤ 20 → validWidth k ≡ true
@@ -44,7 +46,7 @@ valid-width k low high = rw (le-leb 1 k low, le-leb k 20 high) refl
 
 module _ (B : ℕ) (held : List ℕ) (k : ℕ) (f : Finding) (bins order : List ℕ) (scratch : ℕ)
     (W : validSize B ≡ true) (K : 1 ≤ k) (L : k ≤ 20) (M : blocksIn B held ≤ 16777216) (S : 2 ^ k ≤ scratch)
-    (best : Best B held k f bins order) where
+    (best : BestOf B held k f bins order) where
   abbrev counts : List ℕ
   counts = take (2 ^ k) bins
 
@@ -109,37 +111,44 @@ findings-agree B held k f bins order scratch W K L M S best =
       score = scored B held k f bins order scratch W K L M S best;
     }
 
--- ---- after a session
+-- ---- after an acquisition
 
 started-valid : (t : Bool) (a b : Started) → b .refusal ≡ 1 → cond t a b .refusal ≡ 0 → t ≡ true
 started-valid true a b one e = refl
 started-valid false a b one e = absurd (omega (arith, one, e))
 
-session-valid : {B : ℕ} {ws : List ℕ} {pieces : List (List ℕ)} {answers : List ℕ} {s : Sampler} {ws′ : List ℕ} → Session B ws pieces answers s ws′ → validSize B ≡ true
+acquired-valid : {B : ℕ} {ws : List ℕ} {pieces : List (List ℕ)} {answers : List ℕ} {s : Sampler} {ws′ : List ℕ} → Acquisition B ws pieces answers s ws′ → validSize B ≡ true
 unfolding startedOf
-session-valid {B} (fresh r ws′ is left none) = started-valid (validSize B) _ _ refl (sym (ap (λ (a : Started). a .refusal) is) ∙ none)
-session-valid (next session piece r ws″ is left) = session-valid session
+acquired-valid {B} (fresh r ws′ is left none) = started-valid (validSize B) _ _ refl (sym (ap (λ (a : Started). a .refusal) is) ∙ none)
+acquired-valid (next acquired piece r ws″ is left) = acquired-valid acquired
 
--- the refusal that a search answers
-said : (d : ℕ) (bit : ℕ → ℕ → ℕ) (n B k : ℕ) (r : Searched) → r ≡ answerOf d bit n B k → r .refusal ≡ 0 → d ≡ 0
-said zero bit n B k r e z = refl
-said (suc d) bit n B k r e z = sym (ap (λ (a : Searched). a .refusal) e) ∙ z
+module _ (B : ℕ) (ws : List ℕ) (pieces : List (List ℕ)) (answers : List ℕ) (s : Sampler) (ws′ : List ℕ) (acquired : Acquisition B ws pieces answers s ws′) where
+  abbrev held : List ℕ
+  held = recording B (length ws) pieces
+
+  -- the stretch of a search that is not refused
+  searched-agrees : (d first end k : ℕ) (bins order : List ℕ) (r : Searched) (bins′ order′ : List ℕ) → StretchSearch d s ws′ first end k bins order r bins′ order′
+      → (d ≡ 0 → SearchFree s (length ws′) first end k) → BestIn B held first end k (r .finding) bins′ order′ → r .refusal ≡ 0
+      → (scratch : ℕ) → 2 ^ k ≤ scratch → Agrees B (stretchBytes B held first end) k (r .finding) bins′ order′ scratch
+  searched-agrees d first end k bins order r bins′ order′ S free best z scratch room =
+      let valid = acquired-valid acquired in
+      let f = free (sym (said-is d _ _ _ k r (S .answered)) ∙ z) in
+      let has : end ≤ blocksIn B held = omega (arith, f .ordered .held, whole-recordings B ws pieces answers s ws′ acquired .blocks) in
+      let all : blocksIn B held ≤ 16777216 =
+      le-trans (room-blocks B (length ws) (length held) (valid-facts B valid) (all-recorded B ws valid pieces .holds .within)) (min-le-right _ _) in
+      let few : blocksIn B (stretchBytes B held first end) ≤ 16777216 = omega (arith, stretches-alone B held first end valid (f .ordered .order) has .blocks) in
+      findings-agree B (stretchBytes B held first end) k (r .finding) bins′ order′ scratch valid (f .width .some) (f .width .width) few room
+      (best-alone B held first end k (r .finding) bins′ order′ valid (f .ordered .order) has best)
 
 pub all-agree : AllAgree
-all-agree B ws pieces answers s ws′ session =
-    let claim = claims B ws pieces answers s ws′ session in
-    let valid = session-valid session in
-    let held = recording B (length ws) pieces in
-    let few : blocksIn B held ≤ 16777216 =
-    le-trans (room-blocks B (length ws) (length held) (valid-facts B valid) (all-recorded B ws valid pieces .holds .within)) (min-le-right _ _) in
+all-agree B ws pieces answers s ws′ acquired =
+    let claim = claims B ws pieces answers s ws′ acquired in
     record {
-      direct = λ k bins order r bins′ order′ S z scratch room.
-          let d = directRefusal s (length ws′) k (length bins) (length order) in
-          let w = direct-free s (length ws′) k (length bins) (length order) (said d (sampleOf s ws′) (blocksOf s) (s .«block_size») k r (S .answered) z) .search .width in
-          findings-agree B held k (r .finding) bins′ order′ scratch valid (w .some) (w .width) few room (claim .direct k bins order r bins′ order′ S .best z);
-      layered = λ k first second bins order r first′ second′ bins′ order′ S z scratch room.
-          let d = layeredRefusal s (length ws′) k (length first) (length second) (length bins) (length order) in
-          let w =
-          layered-free s (length ws′) k (length first) (length second) (length bins) (length order) (said d (sampleOf s ws′) (blocksOf s) (s .«block_size») k r (S .search .answered) z) .search .width in
-          findings-agree B held k (r .finding) bins′ order′ scratch valid (w .some) (w .width) few room (claim .layered k first second bins order r first′ second′ bins′ order′ S .best z);
+      direct = λ first end k bins order r bins′ order′ S z.
+          searched-agrees B ws pieces answers s ws′ acquired _ first end k bins order r bins′ order′ S
+          (λ e. direct-free s (length ws′) first end k (length bins) (length order) e .search) (claim .direct first end k bins order r bins′ order′ S .best z) z;
+      layered = λ first end k lower upper bins order r lower′ upper′ bins′ order′ S z.
+          searched-agrees B ws pieces answers s ws′ acquired _ first end k bins order r bins′ order′ (S .search)
+          (λ e. layered-free s (length ws′) first end k (length lower) (length upper) (length bins) (length order) e .search)
+          (claim .layered first end k lower upper bins order r lower′ upper′ bins′ order′ S .best z) z;
     }

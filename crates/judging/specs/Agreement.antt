@@ -1,4 +1,4 @@
--- A finding evaluated on the very recording that it was found in.
+-- A finding evaluated on the very blocks that it was found in.
 use mathlib.Core.Path.{_≡_}
 use mathlib.Core.Bool.{true}
 use mathlib.Core.List.{List}
@@ -7,10 +7,11 @@ use lib.ListN.{length, take}
 use Rattle.counting.specs.Block.{validSize}
 use Rattle.counting.specs.Recording.{blocksIn, recording}
 use Rattle.counting.specs.Sample.{total}
+use Rattle.counting.specs.Stretch.{stretchBytes}
 use Rattle.counting.specs.declared.sampling.Sampler.{Sampler}
 use Rattle.ranking.specs.Ranking.{inBinOrder}
 use Rattle.scoring.specs.Score.{abs}
-use Rattle.searching.specs.Claim.{Session, Best}
+use Rattle.searching.specs.Claim.{Acquisition, BestOf}
 use Rattle.searching.specs.Search.{DirectSearch, LayeredSearch}
 use Rattle.searching.specs.declared.finding.Finding.{Finding}
 use Rattle.searching.specs.declared.finding.Searched.{Searched}
@@ -32,19 +33,20 @@ abbrev pub FindingsAgree : Type 0
 FindingsAgree =
     (B : ℕ) (held : List ℕ) (k : ℕ) (f : Finding) (bins order : List ℕ) (scratch : ℕ)
     → validSize B ≡ true → 1 ≤ k → k ≤ 20 → blocksIn B held ≤ 16777216 → 2 ^ k ≤ scratch
-    → Best B held k f bins order → Agrees B held k f bins order scratch
+    → BestOf B held k f bins order → Agrees B held k f bins order scratch
 
--- Theorem: it holds of what each search leaves after a start that is not refused and any feeds, where the search is not refused.
+-- Theorem: it holds of what each search leaves after a start that is not refused and any feeds, where the search is not refused, and of the bytes of its
+-- stretch of the recording.
 pub record SearchesAgree (B : ℕ) (ws : List ℕ) (pieces : List (List ℕ)) (s : Sampler) (ws′ : List ℕ) : Type 0 where
   pub direct :
-      (k : ℕ) (bins order : List ℕ) (r : Searched) (bins′ order′ : List ℕ) → DirectSearch s ws′ k bins order r bins′ order′ → r .refusal ≡ 0
-      → (scratch : ℕ) → 2 ^ k ≤ scratch → Agrees B (recording B (length ws) pieces) k (r .finding) bins′ order′ scratch
+      (first end k : ℕ) (bins order : List ℕ) (r : Searched) (bins′ order′ : List ℕ) → DirectSearch s ws′ first end k bins order r bins′ order′ → r .refusal ≡ 0
+      → (scratch : ℕ) → 2 ^ k ≤ scratch → Agrees B (stretchBytes B (recording B (length ws) pieces) first end) k (r .finding) bins′ order′ scratch
   pub layered :
-      (k : ℕ) (first second bins order : List ℕ) (r : Searched) (first′ second′ bins′ order′ : List ℕ)
-      → LayeredSearch s ws′ k first second bins order r first′ second′ bins′ order′ → r .refusal ≡ 0
-      → (scratch : ℕ) → 2 ^ k ≤ scratch → Agrees B (recording B (length ws) pieces) k (r .finding) bins′ order′ scratch
+      (first end k : ℕ) (lower upper bins order : List ℕ) (r : Searched) (lower′ upper′ bins′ order′ : List ℕ)
+      → LayeredSearch s ws′ first end k lower upper bins order r lower′ upper′ bins′ order′ → r .refusal ≡ 0
+      → (scratch : ℕ) → 2 ^ k ≤ scratch → Agrees B (stretchBytes B (recording B (length ws) pieces) first end) k (r .finding) bins′ order′ scratch
 
 abbrev pub AllAgree : Type 0
 AllAgree =
     (B : ℕ) (ws : List ℕ) (pieces : List (List ℕ)) (answers : List ℕ) (s : Sampler) (ws′ : List ℕ)
-    → Session B ws pieces answers s ws′ → SearchesAgree B ws pieces s ws′
+    → Acquisition B ws pieces answers s ws′ → SearchesAgree B ws pieces s ws′

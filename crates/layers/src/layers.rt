@@ -1,14 +1,14 @@
 // The bins of one subset from one count and the layer below, and a whole layer from the layer below.
 use crate::run::advance;
 use crate::run::begin_run;
+use counting::stretch::Stretch;
 use subsets::stepping::first;
 ghost use mathlib.Core.Path.{_≡_};
 ghost use mathlib.Core.List.{_++_};
 ghost use Prim.Native.Nat.{_-_, _*_, _^_, _≤_, _<_};
 ghost use lib.ListN.{length, drop};
 ghost use Rattle.counting.specs.Sample.{countsOf};
-ghost use Rattle.counting.specs.Words.{storedBit};
-ghost use Rattle.counting.specs.Rows.{BlocksIn};
+ghost use Rattle.counting.specs.Stretch.{StretchIn, span, stretchBit};
 ghost use Rattle.subsets.specs.Subsets.{Subset};
 ghost use Rattle.layers.specs.Layers.{FirstZero, Layer, layerSize, Holds};
 ghost use Rattle.layers.specs.Run.{Run, RunRoom};
@@ -22,25 +22,23 @@ fn first_zero_bit(v: u32) -> u32
 
 // The bin counts of d bits: the bin of all ones is among the counts of the run, and every other is what the bin without its first zero bit
 // has in layer d - 1 less the bin with that bit set. Below that bit all are ones, so taking it out of the bin number halves the number.
-// Of words, stride and n only the promise speaks.
+// Of words and of the stretch's blocks only the promise speaks.
 pub fn compute_bins(
     bits: &[u32],
     words: &[u64],
-    stride: usize,
-    n: usize,
-    block_size: usize,
+    stretch: Stretch,
     store: &[u32],
     counts: &[u32],
     ranks: &[usize],
     bins: &mut [u32],
 )
     requires { ⌜ (1 ≤ length (now bits)) × (length (now bits) ≤ 20) ⌝ }
-    requires { ⌜ Subset «block_size» (length (now bits)) (now bits) ⌝ }
-    requires { ⌜ Holds (storedBit stride (now words)) n «block_size» (length (now bits) - 1) (now store) ⌝ }
-    requires { ⌜ RunRoom «block_size» (length (now bits)) (now counts) (now ranks) ⌝ }
-    requires { ⌜ Run (storedBit stride (now words)) n «block_size» (now bits) (now counts) (now ranks) ⌝ }
+    requires { ⌜ Subset (stretch .«block_size») (length (now bits)) (now bits) ⌝ }
+    requires { ⌜ Holds (stretchBit stretch (now words)) (span stretch) (stretch .«block_size») (length (now bits) - 1) (now store) ⌝ }
+    requires { ⌜ RunRoom (stretch .«block_size») (length (now bits)) (now counts) (now ranks) ⌝ }
+    requires { ⌜ Run (stretchBit stretch (now words)) (span stretch) (stretch .«block_size») (now bits) (now counts) (now ranks) ⌝ }
     requires { ⌜ 2 ^ length (now bits) ≤ length (now bins) ⌝ }
-    ensures { λ _. ⌜ now (bins .exit) ≡ countsOf (storedBit stride (now (words .entry))) n (now (bits .entry)) ++ drop (2 ^ length (now (bits .entry))) (now (bins .entry)) ⌝ }
+    ensures { λ _. ⌜ now (bins .exit) ≡ countsOf (stretchBit stretch (now (words .entry))) (span stretch) (now (bits .entry)) ++ drop (2 ^ length (now (bits .entry))) (now (bins .entry)) ⌝ }
 {
     let last = bits.len() - 1;
     let half: usize = 1 << last as u32;
@@ -61,40 +59,36 @@ pub fn compute_bins(
 pub fn fill_layer(
     d: usize,
     words: &[u64],
-    stride: usize,
-    n: usize,
-    block_size: usize,
+    stretch: Stretch,
     prev: &[u32],
     counts: &mut [u32],
     ranks: &mut [usize],
     next: &mut [u32],
 )
-    requires { ⌜ (1 ≤ d) × (d ≤ 20) × (d ≤ «block_size») × («block_size» < 4294967296) ⌝ }
-    requires { ⌜ («block_size» * stride ≤ length (now words)) × BlocksIn stride n ⌝ }
-    requires { ⌜ Holds (storedBit stride (now words)) n «block_size» (d - 1) (now prev) ⌝ }
-    requires { ⌜ RunRoom «block_size» d (now counts) (now ranks) ⌝ }
-    requires { ⌜ layerSize «block_size» d ≤ length (now next) ⌝ }
-    ensures { λ _. ⌜ Layer (storedBit stride (now (words .entry))) n «block_size» d (now (next .exit)) ⌝ }
-    ensures { λ _. ⌜ drop (layerSize «block_size» d) (now (next .exit)) ≡ drop (layerSize «block_size» d) (now (next .entry)) ⌝ }
+    requires { ⌜ (1 ≤ d) × (d ≤ 20) × (d ≤ stretch .«block_size») × (stretch .«block_size» < 4294967296) ⌝ }
+    requires { ⌜ StretchIn stretch (length (now words)) ⌝ }
+    requires { ⌜ Holds (stretchBit stretch (now words)) (span stretch) (stretch .«block_size») (d - 1) (now prev) ⌝ }
+    requires { ⌜ RunRoom (stretch .«block_size») d (now counts) (now ranks) ⌝ }
+    requires { ⌜ layerSize (stretch .«block_size») d ≤ length (now next) ⌝ }
+    ensures { λ _. ⌜ Layer (stretchBit stretch (now (words .entry))) (span stretch) (stretch .«block_size») d (now (next .exit)) ⌝ }
+    ensures { λ _. ⌜ drop (layerSize (stretch .«block_size») d) (now (next .exit)) ≡ drop (layerSize (stretch .«block_size») d) (now (next .entry)) ⌝ }
 {
     let size: usize = 1 << d as u32;
     let mut bits = first(d);
     let mut at: usize = 0;
-    begin_run(&bits[..d], words, stride, n, block_size, counts, ranks);
+    begin_run(&bits[..d], words, stretch, counts, ranks);
     loop {
         let end = at + size;
         compute_bins(
             &bits[..d],
             words,
-            stride,
-            n,
-            block_size,
+            stretch,
             prev,
             counts,
             ranks,
             &mut next[at..end],
         );
-        if !advance(&mut bits, d, words, stride, n, block_size, counts, ranks) {
+        if !advance(&mut bits, d, words, stretch, counts, ranks) {
             return;
         }
         at = end;

@@ -1,14 +1,14 @@
 // A run: the subsets that differ in their last bit alone. The rows of the other bits are ANDed once for all of them, and from one
 // to the next each rank that is needed grows by one, so no subset costs a walk over the block.
 use counting::rows::multi_eval;
+use counting::stretch::Stretch;
 use subsets::rank::rank_of;
 use subsets::stepping::successor;
 ghost use mathlib.Core.Path.{_≡_};
 ghost use mathlib.Core.Bool.{true};
-ghost use Prim.Native.Nat.{ℕ, _+_, _-_, _*_, _^_, _≤_, _<_};
+ghost use Prim.Native.Nat.{ℕ, _+_, _-_, _^_, _≤_, _<_};
 ghost use lib.ListN.{length, getD, take};
-ghost use Rattle.counting.specs.Words.{storedBit};
-ghost use Rattle.counting.specs.Rows.{BlocksIn};
+ghost use Rattle.counting.specs.Stretch.{StretchIn, span, stretchBit};
 ghost use Rattle.subsets.specs.Subsets.{Subset};
 ghost use Rattle.subsets.specs.Stepping.{Stepped};
 ghost use Rattle.subsets.specs.Choose.{choose};
@@ -55,27 +55,25 @@ fn ranks_without(bits: &[u32], block_size: usize, ranks: &mut [usize])
 pub fn begin_run(
     bits: &[u32],
     words: &[u64],
-    stride: usize,
-    n: usize,
-    block_size: usize,
+    stretch: Stretch,
     counts: &mut [u32],
     ranks: &mut [usize],
 )
-    requires { ⌜ (1 ≤ length (now bits)) × (length (now bits) ≤ 20) × («block_size» < 4294967296) ⌝ }
-    requires { ⌜ Subset «block_size» (length (now bits)) (now bits) ⌝ }
-    requires { ⌜ («block_size» * stride ≤ length (now words)) × BlocksIn stride n ⌝ }
-    requires { ⌜ choose «block_size» (length (now bits) - 1) ≤ 2 ^ 32 ⌝ }
-    requires { ⌜ RunRoom «block_size» (length (now bits)) (now counts) (now ranks) ⌝ }
-    ensures { λ _. ⌜ Run (storedBit stride (now (words .entry))) n «block_size» (now (bits .entry)) (now (counts .exit)) (now (ranks .exit)) ⌝ }
+    requires { ⌜ (1 ≤ length (now bits)) × (length (now bits) ≤ 20) × (stretch .«block_size» < 4294967296) ⌝ }
+    requires { ⌜ Subset (stretch .«block_size») (length (now bits)) (now bits) ⌝ }
+    requires { ⌜ StretchIn stretch (length (now words)) ⌝ }
+    requires { ⌜ choose (stretch .«block_size») (length (now bits) - 1) ≤ 2 ^ 32 ⌝ }
+    requires { ⌜ RunRoom (stretch .«block_size») (length (now bits)) (now counts) (now ranks) ⌝ }
+    ensures { λ _. ⌜ Run (stretchBit stretch (now (words .entry))) (span stretch) (stretch .«block_size») (now (bits .entry)) (now (counts .exit)) (now (ranks .exit)) ⌝ }
 {
     let at = bits.len() - 1;
     let last = bits[at] as usize;
+    let block_size = stretch.block_size;
     multi_eval(
         &bits[..at],
         last,
         words,
-        stride,
-        n,
+        stretch,
         &mut counts[last..block_size],
     );
     ranks_without(bits, block_size, ranks);
@@ -99,21 +97,20 @@ pub fn advance(
     bits: &mut [u32],
     k: usize,
     words: &[u64],
-    stride: usize,
-    n: usize,
-    block_size: usize,
+    stretch: Stretch,
     counts: &mut [u32],
     ranks: &mut [usize],
 ) -> bool
-    requires { ⌜ (1 ≤ k) × (k ≤ 20) × («block_size» < 4294967296) ⌝ }
-    requires { ⌜ Subset «block_size» k (take k (now bits)) ⌝ }
-    requires { ⌜ («block_size» * stride ≤ length (now words)) × BlocksIn stride n ⌝ }
-    requires { ⌜ choose «block_size» (k - 1) ≤ 2 ^ 32 ⌝ }
-    requires { ⌜ RunRoom «block_size» k (now counts) (now ranks) ⌝ }
-    requires { ⌜ Run (storedBit stride (now words)) n «block_size» (take k (now bits)) (now counts) (now ranks) ⌝ }
-    ensures { λ r. ⌜ Stepped «block_size» k (now (bits .entry)) r (now (bits .exit)) ⌝ }
-    ensures { λ r. ⌜ (r ≡ true → Run (storedBit stride (now (words .entry))) n «block_size» (take k (now (bits .exit))) (now (counts .exit)) (now (ranks .exit))) ⌝ }
+    requires { ⌜ (1 ≤ k) × (k ≤ 20) × (stretch .«block_size» < 4294967296) ⌝ }
+    requires { ⌜ Subset (stretch .«block_size») k (take k (now bits)) ⌝ }
+    requires { ⌜ StretchIn stretch (length (now words)) ⌝ }
+    requires { ⌜ choose (stretch .«block_size») (k - 1) ≤ 2 ^ 32 ⌝ }
+    requires { ⌜ RunRoom (stretch .«block_size») k (now counts) (now ranks) ⌝ }
+    requires { ⌜ Run (stretchBit stretch (now words)) (span stretch) (stretch .«block_size») (take k (now bits)) (now counts) (now ranks) ⌝ }
+    ensures { λ r. ⌜ Stepped (stretch .«block_size») k (now (bits .entry)) r (now (bits .exit)) ⌝ }
+    ensures { λ r. ⌜ (r ≡ true → Run (stretchBit stretch (now (words .entry))) (span stretch) (stretch .«block_size») (take k (now (bits .exit))) (now (counts .exit)) (now (ranks .exit))) ⌝ }
 {
+    let block_size = stretch.block_size;
     let at = k - 1;
     let bit = bits[at] + 1;
     if (bit as usize) < block_size {
@@ -124,6 +121,6 @@ pub fn advance(
     if !successor(bits, k, block_size) {
         return false;
     }
-    begin_run(&bits[..k], words, stride, n, block_size, counts, ranks);
+    begin_run(&bits[..k], words, stretch, counts, ranks);
     true
 }

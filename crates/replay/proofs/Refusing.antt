@@ -43,22 +43,22 @@ replay-free B bytes lengths k bins order e =
     }
 
 -- where the search itself is not refused, the stores decide
-pub stores-decide : (s : Sampler) (words k a b bins order : ℕ) → searchRefusal s words k ≡ 0
-    → layeredRefusal s words k a b bins order ≡ orElse (storeRefusal (s .«block_size») k a b) (bufferRefusal k bins order)
+pub stores-decide : (s : Sampler) (words first end k a b bins order : ℕ) → searchRefusal s words first end k ≡ 0
+    → layeredRefusal s words first end k a b bins order ≡ orElse (storeRefusal (s .«block_size») k a b) (bufferRefusal k bins order)
 unfolding layeredRefusal
-stores-decide s words k a b bins order e = rw e
+stores-decide s words first end k a b bins order e = rw e
 
 -- the layered search is not made, and everything is as lent
-pub left-out : (s : Sampler) (ws : List ℕ) (k : ℕ) (first second bins order : List ℕ) (answer : Searched) (short : ℕ)
-    → searchRefusal s (length ws) k ≡ 0 → short ≡ storeRefusal (s .«block_size») k (length first) (length second) → (short ≡ 0 → ⊥) → answer ≡ refusedWith short
-    → LayeredSearch s ws k first second bins order answer first second bins order
-left-out s ws k first second bins order answer short free is some e =
+pub left-out : (s : Sampler) (ws : List ℕ) (end k : ℕ) (first second bins order : List ℕ) (answer : Searched) (short : ℕ)
+    → searchRefusal s (length ws) 0 end k ≡ 0 → short ≡ storeRefusal (s .«block_size») k (length first) (length second) → (short ≡ 0 → ⊥) → answer ≡ refusedWith short
+    → LayeredSearch s ws 0 end k first second bins order answer first second bins order
+left-out s ws end k first second bins order answer short free is some e =
     let stores = storeRefusal (s .«block_size») k (length first) (length second) in
-    let said : short ≡ layeredRefusal s (length ws) k (length first) (length second) (length bins) (length order) =
+    let said : short ≡ layeredRefusal s (length ws) 0 end k (length first) (length second) (length bins) (length order) =
     is ∙ or-first stores (bufferRefusal k (length bins) (length order)) (λ z. some (is ∙ z))
-    ∙ sym (stores-decide s (length ws) k (length first) (length second) (length bins) (length order) free) in
+    ∙ sym (stores-decide s (length ws) 0 end k (length first) (length second) (length bins) (length order) free) in
     record {
-      search = search-refused _ s ws k bins order answer (λ z. some (said ∙ z)) (e ∙ ap refusedWith said);
+      search = search-refused _ _ _ _ k bins order answer (λ z. some (said ∙ z)) (e ∙ ap refusedWith said);
       kept = (refl, refl);
     }
 

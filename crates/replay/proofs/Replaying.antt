@@ -1,8 +1,9 @@
--- The calls of a replay are a session, so the claim holds of them: what the replay answers and leaves is what the plain recording says (theorem `replayed`).
+-- The calls of a replay are an acquisition and its searches, so the claim holds of them: what the replay answers and leaves is what the plain recording says (theorem `replayed`).
 use mathlib.Core.Path.{_≡_, refl, ap, subst, _∙_}
 use mathlib.Core.Bool.{Bool, true, false}
 use mathlib.Core.List.{List, [], _∷_, _++_, append-assoc, append-nil}
-use Prim.Native.Nat.{ℕ, zero, suc, _^_, _≤_}
+use Prim.Native.Nat.{ℕ, zero, suc, _^_, _≤_, zero-le}
+use native.Mathlib.Omega.{arith}
 use lib.Dec.{eqb}
 use lib.ListN.{length, drop}
 use borrow.Author.Tests.{eqb-true}
@@ -10,7 +11,7 @@ use Rattle.counting.specs.Block.{validSize}
 use Rattle.counting.specs.Recorded.{State, started, fed, fedAll, answersFrom, HoldsRecording}
 use Rattle.counting.specs.Recording.{stride, capacityBytes, recording, blocksIn, recordedBit}
 use Rattle.counting.specs.Sample.{countsOf, AgreeBelow}
-use Rattle.counting.specs.Sampling.{startedOf, startedWords, fedOf, fedWords}
+use Rattle.counting.specs.Sampling.{startedOf, startedWords, blocksOf, fedOf, fedWords}
 use Rattle.counting.specs.Words.{storedBit}
 use Rattle.counting.specs.declared.sampling.Sampler.{Sampler}
 use Rattle.counting.specs.declared.sampling.Started.{Started}
@@ -19,14 +20,17 @@ use Rattle.layers.specs.Size.{storeRefusal}
 use Rattle.scoring.specs.Score.{Number}
 use Rattle.ranking.specs.Order.{orderOf}
 use Rattle.ranking.proofs.Dividing.{score-number}
-use Rattle.searching.specs.Claim.{Session, fresh, next, Best, Claim}
+use Rattle.searching.specs.Claim.{Acquisition, fresh, next, BestOf, Claim}
 use Rattle.searching.specs.Finding.{winnerOf}
 use Rattle.searching.specs.Refusal.{orElse, widthRefusal, searchRefusal, directRefusal, layeredRefusal}
-use Rattle.searching.specs.Search.{Search, DirectSearch, LayeredSearch, sampleOf, freeAfter}
+use Rattle.searching.specs.Search.{Search, StretchSearch, DirectSearch, LayeredSearch, freeAfter}
+use Rattle.searching.specs.Stretches.{sampleOf}
 use Rattle.searching.specs.declared.finding.Finding.{Finding}
 use Rattle.searching.specs.declared.finding.Searched.{Searched}
-use Rattle.searching.proofs.Claiming.{agrees, usable-is, said-is, claims}
+use Rattle.searching.proofs.Claiming.{usable-is, claims}
 use Rattle.searching.proofs.Filled.{replaced-rest, length-counts, length-order}
+use Rattle.searching.proofs.Refusing.{said-is}
+use Rattle.searching.proofs.Stretches.{never-outside, whole-stretches, whole-recordings}
 use Rattle.searching.proofs.Walking.{winner-optimal}
 use Rattle.replay.specs.Agreement.{sameFinding, agreeOf}
 use Rattle.replay.specs.Pieces.{refusedIn, stateOf, FedPieces}
@@ -36,11 +40,11 @@ use Rattle.replay.proofs.Agreeing.{winner-counts, winner-finding}
 use Rattle.replay.proofs.Comparing.{finding-self}
 use Rattle.replay.proofs.Refusing.{ReplayFree, stores-decide}
 
--- ---- the calls are a session
+-- ---- the calls are an acquisition
 
-extend : {B : ℕ} {ws : List ℕ} {pieces : List (List ℕ)} {answers : List ℕ} {s : Sampler} {ws′ : List ℕ} → Session B ws pieces answers s ws′
+extend : {B : ℕ} {ws : List ℕ} {pieces : List (List ℕ)} {answers : List ℕ} {s : Sampler} {ws′ : List ℕ} → Acquisition B ws pieces answers s ws′
     → (more : List (List ℕ))
-    → Session B ws (pieces ++ more) (answers ++ answersFrom (stateOf s ws′) more) (fedAll (stateOf s ws′) more .sampler) (fedAll (stateOf s ws′) more .words)
+    → Acquisition B ws (pieces ++ more) (answers ++ answersFrom (stateOf s ws′) more) (fedAll (stateOf s ws′) more .sampler) (fedAll (stateOf s ws′) more .words)
 unfolding fed fedAll answersFrom
 extend {B} {ws} {pieces} {answers} {s} {ws′} S [] = rw (append-nil pieces, append-nil answers) S
 extend {B} {ws} {pieces} {answers} {s} {ws′} S (p ∷ more) =
@@ -52,24 +56,28 @@ abbrev pub stateAfter : ℕ → List ℕ → List (List ℕ) → State
 stateAfter B ws pieces = fedAll (started B ws) pieces
 
 module _ (B : ℕ) (ws : List ℕ) (pieces : List (List ℕ)) (ok : validSize B ≡ true) where
-  session : Session B ws pieces (answersFrom (started B ws) pieces) (stateAfter B ws pieces .sampler) (stateAfter B ws pieces .words)
+  acquired : Acquisition B ws pieces (answersFrom (started B ws) pieces) (stateAfter B ws pieces .sampler) (stateAfter B ws pieces .words)
   unfolding started startedOf
-  session =
+  acquired =
       let none : startedOf B (length ws) .refusal ≡ 0 = simp ok in
       extend (fresh (startedOf B (length ws)) (startedWords B ws) refl refl none) pieces
 
   claim : Claim B ws pieces (answersFrom (started B ws) pieces) (stateAfter B ws pieces .sampler) (stateAfter B ws pieces .words)
-  claim = claims B ws pieces _ _ _ session
+  claim = claims B ws pieces _ _ _ acquired
 
   holds : HoldsRecording B (length ws) (stateAfter B ws pieces) (recording B (length ws) pieces)
   holds = all-recorded B ws ok pieces .holds
 
-  -- a recorder's sampler is never refused
-  pub searchable : (k : ℕ) → widthRefusal B k ≡ 0 → searchRefusal (stateAfter B ws pieces .sampler) (length (stateAfter B ws pieces .words)) k ≡ 0
+  -- its n is the recording's
+  pub blocks-are : blocksOf (stateAfter B ws pieces .sampler) ≡ blocksIn B (recording B (length ws) pieces)
+  blocks-are = whole-recordings B ws pieces _ _ _ acquired .blocks
+
+  -- a recorder's sampler is never refused, nor all its blocks
+  pub searchable : (k : ℕ) → widthRefusal B k ≡ 0 → searchRefusal (stateAfter B ws pieces .sampler) (length (stateAfter B ws pieces .words)) 0 (blocksOf (stateAfter B ws pieces .sampler)) k ≡ 0
   unfolding searchRefusal
   searchable k e =
       let H = holds in
-      rw (H .sampler, usable-is B (length ws) (recording B (length ws) pieces) (stateAfter B ws pieces .words) ok (H .lent) (H .within) (H .stored) k) e
+      rw (never-outside (stateAfter B ws pieces .sampler), H .sampler, usable-is B (length ws) (recording B (length ws) pieces) (stateAfter B ws pieces .words) ok (H .lent) (H .within) (H .stored) 0 0 k) e
 
 -- the state after start
 pub fresh-is : (B : ℕ) (ws : List ℕ) (r : Started) (ws₁ : List ℕ) → r ≡ startedOf B (length ws) → ws₁ ≡ startedWords B ws → stateOf (r .sampler) ws₁ ≡ started B ws
@@ -101,9 +109,9 @@ module _ (B words : ℕ) (held ws : List ℕ) (ok : validSize B ≡ true) (lent 
   bit = sampleOf s ws
 
   agreed-below : AgreeBelow n B bit (recordedBit B held)
-  agreed-below = agrees B words held ws ok lent within agree k
+  agreed-below = rw lent agree
 
-  told : (bins order : List ℕ) (r : Searched) (bins′ order′ : List ℕ) → Search 0 s ws k bins order r bins′ order′ → Told B held k bins order (r .finding) bins′ order′
+  told : (bins order : List ℕ) (r : Searched) (bins′ order′ : List ℕ) → Search 0 bit n B k bins order r bins′ order′ → Told B held k bins order (r .finding) bins′ order′
   told bins order r bins′ order′ S =
       let counts = winner-counts B n k bit (recordedBit B held) agreed-below chosen in
       record {
@@ -113,7 +121,7 @@ module _ (B words : ℕ) (held ws : List ℕ) (ok : validSize B ≡ true) (lent 
       }
 
   -- refused or not, a search leaves what lies past the 2 ^ k entries
-  past-kept : (q : ℕ) (bins order : List ℕ) (r : Searched) (bins′ order′ : List ℕ) → Search q s ws k bins order r bins′ order′
+  past-kept : (q : ℕ) (bins order : List ℕ) (r : Searched) (bins′ order′ : List ℕ) → Search q bit n B k bins order r bins′ order′
       → (drop (2 ^ k) bins′ ≡ drop (2 ^ k) bins) × (drop (2 ^ k) order′ ≡ drop (2 ^ k) order)
   past-kept zero bins order r bins′ order′ S =
       let W = winnerOf bit n B k in
@@ -160,60 +168,71 @@ module _ (B : ℕ) (ws : List ℕ) (pieces : List (List ℕ)) (bytes : ℕ) (len
   C : Claim B ws pieces (answersFrom (started B ws) pieces) (st .sampler) (st .words)
   C = claim B ws pieces (free .valid)
 
-  no-search : searchRefusal (st .sampler) (length (st .words)) k ≡ 0
+  no-search : searchRefusal (st .sampler) (length (st .words)) 0 (blocksOf (st .sampler)) k ≡ 0
   no-search = searchable B ws pieces (free .valid) k (free .no-width)
 
   -- the layered search is refused just where the stores do not suffice
-  layered-said : layeredRefusal (st .sampler) (length (st .words)) k (length first) (length second) (length bins) (length order) ≡ stores
+  layered-said : layeredRefusal (st .sampler) (length (st .words)) 0 (blocksOf (st .sampler)) k (length first) (length second) (length bins) (length order) ≡ stores
   layered-said =
       let block : st .sampler .«block_size» ≡ B = ap (λ (q : Sampler). q .«block_size») (H .sampler) in
-      stores-decide (st .sampler) (length (st .words)) k (length first) (length second) (length bins) (length order) no-search
+      stores-decide (st .sampler) (length (st .words)) 0 (blocksOf (st .sampler)) k (length first) (length second) (length bins) (length order) no-search
       ∙ or-none _ _ (free .no-buffer) ∙ ap (λ (m : ℕ). storeRefusal m k (length first) (length second)) block
 
   module _ (taken : Taken) (layered direct : Searched) (ws′ first′ second′ bins₁ order₁ bins′ order′ : List ℕ)
       (is : stateOf (taken .sampler) ws′ ≡ stateAfter B ws pieces)
-      (made-layered : LayeredSearch (taken .sampler) ws′ k first second bins order layered first′ second′ bins₁ order₁)
-      (made-direct : DirectSearch (taken .sampler) ws′ k bins₁ order₁ direct bins′ order′)
+      (made-layered : LayeredSearch (taken .sampler) ws′ 0 (blocksOf (taken .sampler)) k first second bins order layered first′ second′ bins₁ order₁)
+      (made-direct : DirectSearch (taken .sampler) ws′ 0 (blocksOf (taken .sampler)) k bins₁ order₁ direct bins′ order′)
       (same-bins : length bins₁ ≡ length bins) (same-order : length order₁ ≡ length order) where
-    L : LayeredSearch (st .sampler) (st .words) k first second bins order layered first′ second′ bins₁ order₁
-    L = subst (λ (q : State). LayeredSearch (q .sampler) (q .words) k first second bins order layered first′ second′ bins₁ order₁) is made-layered
+    L : LayeredSearch (st .sampler) (st .words) 0 (blocksOf (st .sampler)) k first second bins order layered first′ second′ bins₁ order₁
+    L = subst (λ (q : State). LayeredSearch (q .sampler) (q .words) 0 (blocksOf (q .sampler)) k first second bins order layered first′ second′ bins₁ order₁) is made-layered
 
-    D : DirectSearch (st .sampler) (st .words) k bins₁ order₁ direct bins′ order′
-    D = subst (λ (q : State). DirectSearch (q .sampler) (q .words) k bins₁ order₁ direct bins′ order′) is made-direct
+    D : DirectSearch (st .sampler) (st .words) 0 (blocksOf (st .sampler)) k bins₁ order₁ direct bins′ order′
+    D = subst (λ (q : State). DirectSearch (q .sampler) (q .words) 0 (blocksOf (q .sampler)) k bins₁ order₁ direct bins′ order′) is made-direct
 
-    direct-said : directRefusal (st .sampler) (length (st .words)) k (length bins₁) (length order₁) ≡ 0
+    direct-said : directRefusal (st .sampler) (length (st .words)) 0 (blocksOf (st .sampler)) k (length bins₁) (length order₁) ≡ 0
     unfolding directRefusal
     direct-said = rw (no-search, same-bins, same-order) (free .no-buffer)
+
+    abbrev blocks : ℕ
+    blocks = blocksOf (st .sampler)
 
     succeeds : direct .refusal ≡ 0
     succeeds =
         let w = free .width in
-        C .direct k bins₁ order₁ direct bins′ order′ D .succeeds (w .some) (w .width) (w .chosen) (rw same-bins (free .room .0)) (rw same-order (free .room .1))
+        let has : blocks ≤ blocksIn B held = omega (arith, blocks-are B ws pieces (free .valid)) in
+        C .direct 0 blocks k bins₁ order₁ direct bins′ order′ D .succeeds zero-le has (w .some, w .width, w .chosen, rw same-bins (free .room .0), rw same-order (free .room .1))
 
-    best : Best B held k (direct .finding) bins′ order′
-    best = C .direct k bins₁ order₁ direct bins′ order′ D .best succeeds
+    best : BestOf B held k (direct .finding) bins′ order′
+    best = whole-recordings B ws pieces _ _ _ (acquired B ws pieces (free .valid)) .best k (direct .finding) bins′ order′ (C .direct 0 blocks k bins₁ order₁ direct bins′ order′ D .best succeeds)
 
     refusal : ℕ
-    refusal = layeredRefusal (st .sampler) (length (st .words)) k (length first) (length second) (length bins) (length order)
+    refusal = layeredRefusal (st .sampler) (length (st .words)) 0 blocks k (length first) (length second) (length bins) (length order)
 
-    told-layered : Search refusal sampler (st .words) k bins order layered bins₁ order₁
+    -- a search of all blocks, of the sampler that the recording tells
+    all-blocks : (q : ℕ) (bins order : List ℕ) (r : Searched) (bins′ order′ : List ℕ) → StretchSearch q (st .sampler) (st .words) 0 blocks k bins order r bins′ order′
+        → Search q (sampleOf sampler (st .words)) (blocksIn B held) B k bins order r bins′ order′
+    all-blocks q bins order r bins′ order′ S =
+        subst (λ (p : Sampler). Search q (sampleOf p (st .words)) (blocksOf p) (p .«block_size») k bins order r bins′ order′) (H .sampler)
+        (whole-stretches (st .sampler) 0 .search (st .words) q k bins order r bins′ order′ S)
+
+    told-layered : Search refusal (sampleOf sampler (st .words)) (blocksIn B held) B k bins order layered bins₁ order₁
     unfolding refusal
-    told-layered = subst (λ (q : Sampler). Search refusal q (st .words) k bins order layered bins₁ order₁) (H .sampler) (L .search)
+    told-layered = all-blocks refusal bins order layered bins₁ order₁ (L .search)
 
     layered-is : layered .refusal ≡ stores
     unfolding refusal
-    layered-is = said-is B (length ws) held (st .words) (free .valid) (H .lent) (H .within) (H .stored) k refusal layered (told-layered .answered) ∙ layered-said
+    layered-is = said-is refusal _ _ B k layered (told-layered .answered) ∙ layered-said
 
     agreed : agreeOf layered direct ≡ true
     agreed =
         agree-is layered direct (rw (best .z) (score-number _ _ _))
-        (λ z. C .same k bins₁ order₁ direct bins′ order′ D first second bins order layered first′ second′ bins₁ order₁ L succeeds z .findings)
+        (λ z. C .same 0 blocks k bins₁ order₁ direct bins′ order′ D first second bins order layered first′ second′ bins₁ order₁ L succeeds z .findings)
 
     found : Told B held k bins₁ order₁ (direct .finding) bins′ order′
     found =
         told B (length ws) held (st .words) (free .valid) (H .lent) (H .within) (H .stored) k (free .width .chosen) bins₁ order₁ direct bins′ order′
-        (subst (λ (q : Sampler). Search 0 q (st .words) k bins₁ order₁ direct bins′ order′) (H .sampler)
-        (subst (λ (q : ℕ). Search q (st .sampler) (st .words) k bins₁ order₁ direct bins′ order′) direct-said D))
+        (all-blocks 0 bins₁ order₁ direct bins′ order′
+        (subst (λ (q : ℕ). StretchSearch q (st .sampler) (st .words) 0 blocks k bins₁ order₁ direct bins′ order′) direct-said D))
 
     past : (drop (2 ^ k) bins₁ ≡ drop (2 ^ k) bins) × (drop (2 ^ k) order₁ ≡ drop (2 ^ k) order)
     past = past-kept B (length ws) held (st .words) (free .valid) (H .lent) (H .within) (H .stored) k (free .width .chosen) refusal bins order layered bins₁ order₁ told-layered
@@ -221,7 +240,7 @@ module _ (B : ℕ) (ws : List ℕ) (pieces : List (List ℕ)) (bytes : ℕ) (len
     stores-kept : (drop (freeAfter stores B k) first′ ≡ drop (freeAfter stores B k) first) × (drop (freeAfter stores B k) second′ ≡ drop (freeAfter stores B k) second)
     stores-kept =
         let block : st .sampler .«block_size» ≡ B = ap (λ (q : Sampler). q .«block_size») (H .sampler) in
-        let same : freeAfter (layeredRefusal (st .sampler) (length (st .words)) k (length first) (length second) (length bins) (length order)) (st .sampler .«block_size») k
+        let same : freeAfter (layeredRefusal (st .sampler) (length (st .words)) 0 (blocksOf (st .sampler)) k (length first) (length second) (length bins) (length order)) (st .sampler .«block_size») k
         ≡ freeAfter stores B k = λ i. freeAfter (layered-said i) (block i) k in
         subst (λ (m : ℕ). (drop m first′ ≡ drop m first) × (drop m second′ ≡ drop m second)) same (L .kept)
 

@@ -9,7 +9,7 @@ use Rattle.counting.specs.Block.{validSize}
 use Rattle.counting.specs.Recorded.{started, fedAll}
 use Rattle.counting.specs.Recording.{recording, refusalsFrom, blocksIn, recordedBit}
 use Rattle.layers.specs.Size.{storeRefusal}
-use Rattle.searching.specs.Claim.{Best}
+use Rattle.searching.specs.Claim.{BestOf}
 use Rattle.searching.specs.Finding.{winnerOf, findingOf, noFinding}
 use Rattle.searching.specs.Refusal.{orElse, widthRefusal, bufferRefusal}
 use Rattle.searching.specs.Search.{binsAfter, orderAfter, freeAfter}
@@ -67,7 +67,7 @@ pub record ReplayOf (r B : ℕ) (pieces : List (List ℕ)) (k : ℕ) (ws first s
       let free = freeAfter (orElse r (storeRefusal B k (length first) (length second))) B k in
       (drop free first′ ≡ drop free first) × (drop free second′ ≡ drop free second)
   -- the claim's conclusion: what was found is the best of the recording
-  pub best : r ≡ 0 → Best B (recording B (length ws) pieces) k (answer .finding) bins′ order′
+  pub best : r ≡ 0 → BestOf B (recording B (length ws) pieces) k (answer .finding) bins′ order′
 
 -- What `replay` promises.
 abbrev pub Replay : ℕ → List ℕ → List ℕ → ℕ → List ℕ → List ℕ → List ℕ → List ℕ → List ℕ → Replayed → List ℕ → List ℕ → List ℕ → List ℕ → List ℕ → Type 0

@@ -1,6 +1,7 @@
 // The replay of a recording, as a caller meets it.
 ghost use mathlib.Core.Path.{_≡_};
 ghost use lib.ListN.{length};
+ghost use Rattle.counting.specs.Sampling.{blocksOf};
 ghost use Rattle.searching.specs.Refusal.{searchRefusal};
 ghost use Rattle.searching.specs.Search.{LayeredSearch};
 ghost use Rattle.replay.specs.Replay.{refusedReplay, replayRefusal, Replay};
@@ -9,6 +10,7 @@ use crate::pieces::adds_up;
 use crate::pieces::feed_pieces;
 use counting::block::valid_block_size;
 use counting::sampling::Sampler;
+use counting::sampling::blocks;
 use counting::sampling::start;
 use layers::size::store_refusal;
 use searching::finding::Finding;
@@ -58,7 +60,8 @@ pub fn replay(
     let started = start(block_size, words);
     let taken = feed_pieces(started.sampler, words, recording, lengths);
     let layered = search_layered(taken.sampler, words, k, first, second, bins, order);
-    let direct = brute_force_threads(taken.sampler, words, k, bins, order);
+    let n = blocks(taken.sampler);
+    let direct = brute_force_threads(taken.sampler, words, 0, n, k, bins, order);
     let agree = agreeing(layered, direct);
     let finding = direct.finding;
     Replayed {
@@ -70,7 +73,7 @@ pub fn replay(
     }
 }
 
-// The layered search where the stores suffice. Else it is not made, and the answer is what it would refuse with, 6.
+// The layered search of all blocks where the stores suffice. Else it is not made, and the answer is what it would refuse with, 6.
 fn search_layered(
     sampler: Sampler,
     words: &[u64],
@@ -80,14 +83,15 @@ fn search_layered(
     bins: &mut [u32],
     order: &mut [u32],
 ) -> Searched
-    requires { ⌜ searchRefusal sampler (length (now words)) k ≡ 0 ⌝ }
-    ensures { λ r. ⌜ LayeredSearch sampler (now (words .entry)) k (now (first .entry)) (now (second .entry)) (now (bins .entry)) (now (order .entry)) r (now (first .exit)) (now (second .exit)) (now (bins .exit)) (now (order .exit)) ⌝ }
+    requires { ⌜ searchRefusal sampler (length (now words)) 0 (blocksOf sampler) k ≡ 0 ⌝ }
+    ensures { λ r. ⌜ LayeredSearch sampler (now (words .entry)) 0 (blocksOf sampler) k (now (first .entry)) (now (second .entry)) (now (bins .entry)) (now (order .entry)) r (now (first .exit)) (now (second .exit)) (now (bins .exit)) (now (order .exit)) ⌝ }
 {
     let short = store_refusal(sampler.block_size, k, first.len(), second.len());
     if short != 0 {
         return refused(short);
     }
-    brute_force(sampler, words, k, first, second, bins, order)
+    let n = blocks(sampler);
+    brute_force(sampler, words, 0, n, k, first, second, bins, order)
 }
 
 // 24, 1, 2, 3, 7, or 0 where a recording of `recording` bytes can be replayed.

@@ -1,18 +1,20 @@
--- The claim: after every session the words hold the plain recording, and what is best in the words is best in the recording (theorem `claims`).
+-- The claim: after every acquisition the words hold the plain recording, and what is best in a stretch of the words is best in that stretch of the recording
+-- (theorem `claims`).
 use mathlib.Core.Path.{_≡_, refl, sym, ap, ap₂, subst, _∙_}
 use mathlib.Core.Bool.{Bool, true, false, not}
 use mathlib.Core.List.{List, [], _∷_, _++_}
 use mathlib.Core.Logic.{_⊎_, inl, inr}
-use Prim.Native.Nat.{ℕ, zero, suc, _^_, _≤_}
+use Prim.Native.Nat.{ℕ, zero, suc, _+_, _-_, _^_, _≤_, _<_}
 use native.Mathlib.Omega.{arith}
-use lib.Dec.{T}
+use lib.Dec.{T, leb}
 use lib.Ieee.{Float, lt}
 use lib.ListN.{length, take, drop}
-use borrow.Author.Tests.{eq-eqb, le-leb}
+use borrow.Author.Tests.{eq-eqb, le-leb, lt-leb}
 use Rattle.counting.specs.Block.{validSize}
 use Rattle.counting.specs.Recording.{stride, capacityBytes, recording, blocksIn, recordedBit}
-use Rattle.counting.specs.Sample.{countsOf, AgreeBelow}
+use Rattle.counting.specs.Sample.{onward, countsOf, AgreeBelow}
 use Rattle.counting.specs.Sampling.{startedOf, samplerRefusal, fedOf}
+use Rattle.counting.specs.Stretch.{stretchOf, stretchRefusal, stretchBit}
 use Rattle.counting.specs.Recorded.{State, started, fed, fedAll, answersFrom, HoldsRecording}
 use Rattle.counting.specs.Words.{storedBit}
 use Rattle.counting.specs.declared.sampling.Sampler.{Sampler}
@@ -31,16 +33,16 @@ use Rattle.subsets.specs.Subsets.{Subset, lexLt, padded}
 use Rattle.subsets.proofs.Filling.{padded-front}
 use Rattle.subsets.proofs.Listing.{bits-below}
 use Rattle.searching.specs.Finding.{winnerOf, findingOf, zOf}
-use Rattle.searching.specs.Refusal.{widthRefusal, bufferRefusal, searchRefusal, directRefusal, layeredRefusal}
-use Rattle.searching.specs.Search.{Search, DirectSearch, LayeredSearch, answerOf, sampleOf}
-use Rattle.searching.specs.Claim.{Session, fresh, next, Best, DirectClaim, LayeredClaim, Same, Claims}
+use Rattle.searching.specs.Refusal.{orElse, widthRefusal, bufferRefusal, searchRefusal, directRefusal, layeredRefusal}
+use Rattle.searching.specs.Search.{StretchSearch, DirectSearch, LayeredSearch}
+use Rattle.searching.specs.Claim.{Acquisition, fresh, next, Best, BestIn, SearchClaim, DirectRoom, LayeredRoom, Same, Claims}
 use Rattle.searching.specs.declared.finding.Finding.{Finding}
 use Rattle.searching.specs.declared.finding.Searched.{Searched}
 use Rattle.searching.proofs.Filled.{replaced-first, length-counts, length-order}
-use Rattle.searching.proofs.Refusing.{direct-free, layered-free}
+use Rattle.searching.proofs.Refusing.{SearchFree, direct-free, layered-free, said-is}
 use Rattle.searching.proofs.Walking.{winner-optimal}
 
--- ---- a session is a state of the recorder
+-- ---- an acquisition is a state of the recorder
 
 -- a start that is not refused had a valid block size
 valid-start : (B words : ℕ) → startedOf B words .refusal ≡ 0 → validSize B ≡ true
@@ -57,7 +59,7 @@ record Stands (B : ℕ) (ws : List ℕ) (pieces : List (List ℕ)) (answers : Li
   said : answers ≡ answersFrom (started B ws) pieces
 
 stands : {B : ℕ} {ws : List ℕ} {pieces : List (List ℕ)} {answers : List ℕ} {s : Sampler} {ws′ : List ℕ}
-    → Session B ws pieces answers s ws′ → Stands B ws pieces answers s ws′
+    → Acquisition B ws pieces answers s ws′ → Stands B ws pieces answers s ws′
 unfolding started fed fedAll answersFrom
 stands {B} {ws} (fresh r ws′ e g z) = record {
   valid = valid-start B (length ws) (sym (ap (λ (q : Started). q .refusal) e) ∙ z);
@@ -103,22 +105,45 @@ abbrev sampler-of : ℕ → ℕ → ℕ → Sampler
 sampler-of B words taken = record { «block_size» = B; words = words; taken = taken }
 
 module _ (B words : ℕ) (held ws : List ℕ) (ok : validSize B ≡ true) (lent : length ws ≡ words) (within : length held ≤ capacityBytes B words)
-    (agree : AgreeBelow (blocksIn B held) B (storedBit (stride B words) ws) (recordedBit B held)) (k : ℕ) where
+    (agree : AgreeBelow (blocksIn B held) B (storedBit (stride B words) ws) (recordedBit B held)) (first end k : ℕ) where
   abbrev s : Sampler
   s = sampler-of B words (length held)
 
   abbrev n : ℕ
-  n = blocksIn B held
+  n = end - first
 
   abbrev bit : ℕ → ℕ → ℕ
-  bit = sampleOf s ws
+  bit = stretchBit (stretchOf s (length ws) first end) ws
 
-  pub agrees : AgreeBelow n B bit (recordedBit B held)
-  agrees = rw lent agree
+  abbrev told : ℕ → ℕ → ℕ
+  told = onward first (recordedBit B held)
+
+  -- where the recording has its blocks, the stretch of the words is that of the recording
+  pub agrees : end ≤ blocksIn B held → AgreeBelow n B bit told
+  unfolding stretchBit
+  agrees has e b le lb =
+      let whole : AgreeBelow (blocksIn B held) B (storedBit (stride B (length ws)) ws) (recordedBit B held) = rw lent agree in
+      whole (first + e) b (omega arith) lb
 
   pub usable-is : samplerRefusal s (length ws) ≡ 0
   unfolding samplerRefusal
   usable-is = simp (ok, lent, eq-eqb words words refl, le-leb _ _ within)
+
+  stretch-is : first ≤ end → end ≤ blocksIn B held → stretchRefusal s first end ≡ 0
+  unfolding stretchRefusal
+  stretch-is order has = simp (le-leb _ _ order, le-leb _ _ has)
+
+  -- 18 comes before all but 4, which does not come
+  outside-is : (rest : ℕ) → (end < first) ⊎ (blocksIn B held < end)
+      → orElse (orElse (samplerRefusal s (length ws)) (orElse (stretchRefusal s first end) (widthRefusal B k))) rest ≡ 18
+  unfolding stretchRefusal
+  outside-is rest (inl h) = simp (usable-is, lt-leb _ _ h)
+  outside-is rest (inr h) = by-order (leb first end) refl
+    where
+      by-order : (t : Bool) → leb first end ≡ t
+          → orElse (orElse (samplerRefusal s (length ws)) (orElse (stretchRefusal s first end) (widthRefusal B k))) rest ≡ 18
+      by-order true e = simp (usable-is, e, lt-leb _ _ h)
+      by-order false e = simp (usable-is, e)
 
   width-is : 1 ≤ k → k ≤ 20 → k ≤ B → widthRefusal B k ≡ 0
   unfolding widthRefusal validWidth
@@ -128,10 +153,10 @@ module _ (B words : ℕ) (held ws : List ℕ) (ok : validSize B ≡ true) (lent 
   unfolding bufferRefusal
   buffer-is a b p q = simp (le-leb _ _ p, le-leb _ _ q)
 
-  best-of : k ≤ B → (bins order : List ℕ)
+  best-of : end ≤ blocksIn B held → k ≤ B → (bins order : List ℕ)
       → let W = winnerOf bit n B k in
-      Best B held k (findingOf bit n B W) (countsOf bit n W ++ drop (2 ^ k) bins) (orderOf (countsOf bit n W) ++ drop (2 ^ k) order)
-  best-of chosen bins order =
+      Best told n B k (findingOf bit n B W) (countsOf bit n W ++ drop (2 ^ k) bins) (orderOf (countsOf bit n W) ++ drop (2 ^ k) order)
+  best-of has chosen bins order =
       let W = winnerOf bit n B k in
       let opt = winner-optimal bit n B k chosen in
       let front : take k (padded W) ≡ W = padded-front k W (opt .subset .size) in
@@ -146,70 +171,77 @@ module _ (B words : ℕ) (held ws : List ℕ) (ok : validSize B ≡ true) (lent 
         width = opt .subset .size;
         chosen = rw front (opt .subset);
         zeros = ap padded (sym front);
-        counted = counts ∙ counts-agree B n k bit (recordedBit B held) agrees W (opt .subset) ∙ ap (countsOf (recordedBit B held) n) (sym front);
+        counted = counts ∙ counts-agree B n k bit told (agrees has) W (opt .subset) ∙ ap (countsOf told n) (sym front);
         division = λ i. score i .division;
         z = λ i. score i .z;
         ordered = orders ∙ ap orderOf (sym counts);
         beats = λ t X. rw front (elim (opt .beats t X) [
           | inl e ↦ inl e
-          | inr b ↦ inr (beats-agree B n k bit (recordedBit B held) agrees W t X b)
+          | inr b ↦ inr (beats-agree B n k bit told (agrees has) W t X b)
         ]);
       }
 
-  -- the refusal that is answered
-  pub said-is : (r : ℕ) (answer : Searched) → answer ≡ answerOf r bit n B k → answer .refusal ≡ r
-  said-is zero answer e = ap (λ (q : Searched). q .refusal) e
-  said-is (suc r) answer e = ap (λ (q : Searched). q .refusal) e
-
   -- a search that was not refused found the best
-  search-best : (r : ℕ) (bins order : List ℕ) (answer : Searched) (bins′ order′ : List ℕ) → Search r s ws k bins order answer bins′ order′
-      → k ≤ B → answer .refusal ≡ 0 → Best B held k (answer .finding) bins′ order′
-  search-best zero bins order answer bins′ order′ S chosen z =
-      subst (λ (f : Finding). Best B held k f bins′ order′) (sym (ap (λ (q : Searched). q .finding) (S .answered)))
-      (rw (S .counted, S .ordered) (best-of chosen bins order))
-  search-best (suc r) bins order answer bins′ order′ S chosen z = absurd (omega (arith, said-is (suc r) answer (S .answered)))
+  search-best : (r : ℕ) (bins order : List ℕ) (answer : Searched) (bins′ order′ : List ℕ) → StretchSearch r s ws first end k bins order answer bins′ order′
+      → (r ≡ 0 → SearchFree s (length ws) first end k) → answer .refusal ≡ 0 → BestIn B held first end k (answer .finding) bins′ order′
+  search-best zero bins order answer bins′ order′ S free z =
+      let f = free refl in
+      subst (λ (f : Finding). BestIn B held first end k f bins′ order′) (sym (ap (λ (q : Searched). q .finding) (S .answered)))
+      (rw (S .counted, S .ordered) (best-of (f .ordered .held) (f .width .chosen) bins order))
+  search-best (suc r) bins order answer bins′ order′ S free z = absurd (omega (arith, said-is (suc r) bit n B k answer (S .answered)))
 
-  direct-is : (a b : ℕ) → 1 ≤ k → k ≤ 20 → k ≤ B → 2 ^ k ≤ a → 2 ^ k ≤ b → directRefusal s (length ws) k a b ≡ 0
-  unfolding directRefusal searchRefusal
-  direct-is a b some width chosen p q = simp (usable-is, width-is some width chosen, buffer-is a b p q)
-
-  direct-claim : (pieces : List (List ℕ)) → held ≡ recording B words pieces → (bins order : List ℕ) (r : Searched) (bins′ order′ : List ℕ)
-      → DirectSearch s ws k bins order r bins′ order′ → DirectClaim B words pieces k bins order r bins′ order′
-  direct-claim pieces is bins order r bins′ order′ S =
-      let d = directRefusal s (length ws) k (length bins) (length order) in
-      let said : r .refusal ≡ d = said-is d r (S .answered) in
+  -- what holds of a search with the refusal r
+  search-claim : (r : ℕ) (Room : Type 0) (bins order : List ℕ) (answer : Searched) (bins′ order′ : List ℕ) → StretchSearch r s ws first end k bins order answer bins′ order′
+      → ((end < first) ⊎ (blocksIn B held < end) → r ≡ 18) → (first ≤ end → end ≤ blocksIn B held → Room → r ≡ 0)
+      → (r ≡ 0 → SearchFree s (length ws) first end k) → SearchClaim B held first end k Room answer bins′ order′
+  search-claim r Room bins order answer bins′ order′ S out is free =
+      let said : answer .refusal ≡ r = said-is r bit n B k answer (S .answered) in
       record {
-        succeeds = λ some width chosen p q. said ∙ direct-is (length bins) (length order) some width chosen p q;
-        best = λ z.
-            rw (← is)
-            (search-best d bins order r bins′ order′ S (direct-free s (length ws) k (length bins) (length order) (sym said ∙ z) .search .width .chosen) z);
+        outside = λ o. said ∙ out o;
+        succeeds = λ order has room. said ∙ is order has room;
+        best = λ z. search-best r bins order answer bins′ order′ S free z;
       }
+
+  direct-out : (a b : ℕ) → (end < first) ⊎ (blocksIn B held < end) → directRefusal s (length ws) first end k a b ≡ 18
+  unfolding directRefusal searchRefusal
+  direct-out a b o = outside-is (bufferRefusal k a b) o
+
+  direct-is : (bins order : List ℕ) → first ≤ end → end ≤ blocksIn B held → DirectRoom B k bins order
+      → directRefusal s (length ws) first end k (length bins) (length order) ≡ 0
+  unfolding directRefusal searchRefusal
+  direct-is bins order fe has (some, width, chosen, p, q) = simp (usable-is, stretch-is fe has, width-is some width chosen, buffer-is (length bins) (length order) p q)
+
+  direct-claim : (bins order : List ℕ) (r : Searched) (bins′ order′ : List ℕ)
+      → DirectSearch s ws first end k bins order r bins′ order′ → SearchClaim B held first end k (DirectRoom B k bins order) r bins′ order′
+  direct-claim bins order r bins′ order′ S =
+      search-claim _ (DirectRoom B k bins order) bins order r bins′ order′ S (direct-out (length bins) (length order)) (direct-is bins order)
+      (λ z. direct-free s (length ws) first end k (length bins) (length order) z .search)
 
   stores-are : (a b : ℕ) → storeSize B k ≤ 2 ^ 32 → storeSize B k ≤ a → storeSize B k ≤ b → storeRefusal B k a b ≡ 0
   unfolding storeRefusal
   stores-are a b p q r = simp (le-leb _ _ p, le-leb _ _ q, le-leb _ _ r)
 
-  layered-is : (c d a b : ℕ) → 1 ≤ k → k ≤ 20 → k ≤ B → storeSize B k ≤ 2 ^ 32 → storeSize B k ≤ c → storeSize B k ≤ d → 2 ^ k ≤ a → 2 ^ k ≤ b
-      → layeredRefusal s (length ws) k c d a b ≡ 0
+  layered-out : (c d a b : ℕ) → (end < first) ⊎ (blocksIn B held < end) → layeredRefusal s (length ws) first end k c d a b ≡ 18
   unfolding layeredRefusal searchRefusal
-  layered-is c d a b some width chosen w x y p q = simp (usable-is, width-is some width chosen, stores-are c d w x y, buffer-is a b p q)
+  layered-out c d a b o = outside-is (orElse (storeRefusal B k c d) (bufferRefusal k a b)) o
 
-  layered-claim : (pieces : List (List ℕ)) → held ≡ recording B words pieces → (first second bins order : List ℕ) (r : Searched) (first′ second′ bins′ order′ : List ℕ)
-      → LayeredSearch s ws k first second bins order r first′ second′ bins′ order′ → LayeredClaim B words pieces k first second bins order r bins′ order′
-  layered-claim pieces is first second bins order r first′ second′ bins′ order′ S =
-      let d = layeredRefusal s (length ws) k (length first) (length second) (length bins) (length order) in
-      let said : r .refusal ≡ d = said-is d r (S .search .answered) in
-      record {
-        succeeds = λ some width chosen w x y p q. said ∙ layered-is (length first) (length second) (length bins) (length order) some width chosen w x y p q;
-        best = λ z.
-            rw (← is)
-            (search-best d bins order r bins′ order′ (S .search)
-            (layered-free s (length ws) k (length first) (length second) (length bins) (length order) (sym said ∙ z) .search .width .chosen) z);
-      }
+  layered-is : (lower upper bins order : List ℕ) → first ≤ end → end ≤ blocksIn B held → LayeredRoom B k lower upper bins order
+      → layeredRefusal s (length ws) first end k (length lower) (length upper) (length bins) (length order) ≡ 0
+  unfolding layeredRefusal searchRefusal
+  layered-is lower upper bins order fe has ((some, width, chosen, p, q), w, x, y) =
+      simp (usable-is, stretch-is fe has, width-is some width chosen, stores-are (length lower) (length upper) w x y, buffer-is (length bins) (length order) p q)
+
+  layered-claim : (lower upper bins order : List ℕ) (r : Searched) (lower′ upper′ bins′ order′ : List ℕ)
+      → LayeredSearch s ws first end k lower upper bins order r lower′ upper′ bins′ order′
+      → SearchClaim B held first end k (LayeredRoom B k lower upper bins order) r bins′ order′
+  layered-claim lower upper bins order r lower′ upper′ bins′ order′ S =
+      search-claim _ (LayeredRoom B k lower upper bins order) bins order r bins′ order′ (S .search)
+      (layered-out (length lower) (length upper) (length bins) (length order)) (layered-is lower upper bins order)
+      (λ z. layered-free s (length ws) first end k (length lower) (length upper) (length bins) (length order) z .search)
 
   -- two searches that were not refused
   search-same : (q q′ : ℕ) (bins order : List ℕ) (r : Searched) (bins′ order′ binsₗ orderₗ : List ℕ) (rₗ : Searched) (binsₗ′ orderₗ′ : List ℕ)
-      → Search q s ws k bins order r bins′ order′ → Search q′ s ws k binsₗ orderₗ rₗ binsₗ′ orderₗ′
+      → StretchSearch q s ws first end k bins order r bins′ order′ → StretchSearch q′ s ws first end k binsₗ orderₗ rₗ binsₗ′ orderₗ′
       → k ≤ B → r .refusal ≡ 0 → rₗ .refusal ≡ 0 → Same k r bins′ order′ rₗ binsₗ′ orderₗ′
   search-same zero zero bins order r bins′ order′ binsₗ orderₗ rₗ binsₗ′ orderₗ′ S L chosen z y =
       let W = winnerOf bit n B k in
@@ -222,38 +254,43 @@ module _ (B words : ℕ) (held ws : List ℕ) (ok : validSize B ≡ true) (lent 
         orders = ap (take (2 ^ k)) (S .ordered) ∙ replaced-first (2 ^ k) (orderOf counts) order (length-order bit n W ∙ size)
             ∙ sym (ap (take (2 ^ k)) (L .ordered) ∙ replaced-first (2 ^ k) (orderOf counts) orderₗ (length-order bit n W ∙ size));
       }
-  search-same (suc q) q′ bins order r bins′ order′ binsₗ orderₗ rₗ binsₗ′ orderₗ′ S L chosen z y = absurd (omega (arith, said-is (suc q) r (S .answered)))
-  search-same zero (suc q′) bins order r bins′ order′ binsₗ orderₗ rₗ binsₗ′ orderₗ′ S L chosen z y = absurd (omega (arith, said-is (suc q′) rₗ (L .answered)))
+  search-same (suc q) q′ bins order r bins′ order′ binsₗ orderₗ rₗ binsₗ′ orderₗ′ S L chosen z y = absurd (omega (arith, said-is (suc q) bit n B k r (S .answered)))
+  search-same zero (suc q′) bins order r bins′ order′ binsₗ orderₗ rₗ binsₗ′ orderₗ′ S L chosen z y = absurd (omega (arith, said-is (suc q′) bit n B k rₗ (L .answered)))
 
-  both-same : (bins order : List ℕ) (r : Searched) (bins′ order′ : List ℕ) → DirectSearch s ws k bins order r bins′ order′
-      → (first second binsₗ orderₗ : List ℕ) (rₗ : Searched) (first′ second′ binsₗ′ orderₗ′ : List ℕ)
-      → LayeredSearch s ws k first second binsₗ orderₗ rₗ first′ second′ binsₗ′ orderₗ′
+  both-same : (bins order : List ℕ) (r : Searched) (bins′ order′ : List ℕ) → DirectSearch s ws first end k bins order r bins′ order′
+      → (lower upper binsₗ orderₗ : List ℕ) (rₗ : Searched) (lower′ upper′ binsₗ′ orderₗ′ : List ℕ)
+      → LayeredSearch s ws first end k lower upper binsₗ orderₗ rₗ lower′ upper′ binsₗ′ orderₗ′
       → r .refusal ≡ 0 → rₗ .refusal ≡ 0 → Same k r bins′ order′ rₗ binsₗ′ orderₗ′
-  both-same bins order r bins′ order′ S first second binsₗ orderₗ rₗ first′ second′ binsₗ′ orderₗ′ L z y =
-      let d = directRefusal s (length ws) k (length bins) (length order) in
+  both-same bins order r bins′ order′ S lower upper binsₗ orderₗ rₗ lower′ upper′ binsₗ′ orderₗ′ L z y =
+      let d = directRefusal s (length ws) first end k (length bins) (length order) in
       search-same d _ bins order r bins′ order′ binsₗ orderₗ rₗ binsₗ′ orderₗ′ S (L .search)
-      (direct-free s (length ws) k (length bins) (length order) (sym (said-is d r (S .answered)) ∙ z) .search .width .chosen) z y
+      (direct-free s (length ws) first end k (length bins) (length order) (sym (said-is d bit n B k r (S .answered)) ∙ z) .search .width .chosen) z y
 
--- ---- every session
+-- ---- every acquisition
+
+-- the sampler and the words are those of the recording
+pub recorder : (B : ℕ) (ws : List ℕ) (pieces : List (List ℕ)) (answers : List ℕ) (s : Sampler) (ws′ : List ℕ) → Acquisition B ws pieces answers s ws′
+    → HoldsRecording B (length ws) (record { sampler = s; words = ws′ }) (recording B (length ws) pieces)
+recorder B ws pieces answers s ws′ acquired =
+    let S = stands acquired in
+    subst (λ (st : State). HoldsRecording B (length ws) st (recording B (length ws) pieces)) (sym (S .state)) (all-recorded B ws (S .valid) pieces .holds)
 
 pub claims : Claims
-claims B ws pieces answers s ws′ session =
-    let S = stands session in
-    let R = all-recorded B ws (S .valid) pieces in
+claims B ws pieces answers s ws′ acquired =
+    let S = stands acquired in
     let held = recording B (length ws) pieces in
-    let H : HoldsRecording B (length ws) (record { sampler = s; words = ws′ }) held =
-    subst (λ (st : State). HoldsRecording B (length ws) st held) (sym (S .state)) (R .holds) in
+    let H = recorder B ws pieces answers s ws′ acquired in
     let is = H .sampler in
     record {
-      fed = S .said ∙ R .answers;
-      direct = λ k bins order r bins′ order′ P.
-          direct-claim B (length ws) held ws′ (S .valid) (H .lent) (H .within) (H .stored) k pieces refl bins order r bins′ order′
-          (subst (λ (q : Sampler). DirectSearch q ws′ k bins order r bins′ order′) is P);
-      layered = λ k first second bins order r first′ second′ bins′ order′ P.
-          layered-claim B (length ws) held ws′ (S .valid) (H .lent) (H .within) (H .stored) k pieces refl first second bins order r first′ second′ bins′ order′
-          (subst (λ (q : Sampler). LayeredSearch q ws′ k first second bins order r first′ second′ bins′ order′) is P);
-      same = λ k bins order r bins′ order′ P first second binsₗ orderₗ rₗ first′ second′ binsₗ′ orderₗ′ L z y.
-          both-same B (length ws) held ws′ (S .valid) (H .lent) (H .within) (H .stored) k bins order r bins′ order′
-          (subst (λ (q : Sampler). DirectSearch q ws′ k bins order r bins′ order′) is P) first second binsₗ orderₗ rₗ first′ second′ binsₗ′ orderₗ′
-          (subst (λ (q : Sampler). LayeredSearch q ws′ k first second binsₗ orderₗ rₗ first′ second′ binsₗ′ orderₗ′) is L) z y;
+      fed = S .said ∙ all-recorded B ws (S .valid) pieces .answers;
+      direct = λ first end k bins order r bins′ order′ P.
+          direct-claim B (length ws) held ws′ (S .valid) (H .lent) (H .within) (H .stored) first end k bins order r bins′ order′
+          (subst (λ (q : Sampler). DirectSearch q ws′ first end k bins order r bins′ order′) is P);
+      layered = λ first end k lower upper bins order r lower′ upper′ bins′ order′ P.
+          layered-claim B (length ws) held ws′ (S .valid) (H .lent) (H .within) (H .stored) first end k lower upper bins order r lower′ upper′ bins′ order′
+          (subst (λ (q : Sampler). LayeredSearch q ws′ first end k lower upper bins order r lower′ upper′ bins′ order′) is P);
+      same = λ first end k bins order r bins′ order′ P lower upper binsₗ orderₗ rₗ lower′ upper′ binsₗ′ orderₗ′ L z y.
+          both-same B (length ws) held ws′ (S .valid) (H .lent) (H .within) (H .stored) first end k bins order r bins′ order′
+          (subst (λ (q : Sampler). DirectSearch q ws′ first end k bins order r bins′ order′) is P) lower upper binsₗ orderₗ rₗ lower′ upper′ binsₗ′ orderₗ′
+          (subst (λ (q : Sampler). LayeredSearch q ws′ first end k lower upper binsₗ orderₗ rₗ lower′ upper′ binsₗ′ orderₗ′) is L) z y;
     }

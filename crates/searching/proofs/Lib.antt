@@ -4,4 +4,5 @@ pub mod Walking
 pub mod Climbing
 pub mod Refusing
 pub mod Claiming
+pub mod Stretches
 pub mod Examples

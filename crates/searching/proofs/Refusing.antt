@@ -1,15 +1,17 @@
 -- The refusals of a search: what a refusal of 0 tells, and what is promised where there is one and where there is none.
-use mathlib.Core.Path.{_≡_, refl, ap}
+use mathlib.Core.Path.{_≡_, refl, ap, subst}
 use mathlib.Core.Bool.{Bool, true, false, cond}
 use mathlib.Core.List.{List}
 use Prim.Native.Nat.{ℕ, zero, suc, _/_, _^_, _≤_, _<_}
 use native.Mathlib.Nat.{le-trans, min-le-left, min-le-right, div-mul-le-self, mul-comm}
 use native.Mathlib.Omega.{arith}
 use lib.Dec.{leb}
+use lib.ListN.{length}
 use borrow.Author.Tests.{leb-true}
-use Rattle.counting.specs.Recording.{stride}
-use Rattle.counting.specs.Sampling.{samplerRefusal}
+use Rattle.counting.specs.Sampling.{blocksOf, samplerRefusal}
+use Rattle.counting.specs.Stretch.{stretchOf, stretchRefusal, stretchBit, span}
 use Rattle.counting.specs.declared.sampling.Sampler.{Sampler}
+use Rattle.counting.specs.declared.stretch.Stretch.{Stretch}
 use Rattle.counting.proofs.Accepted.{Usable, usable, valid-facts, room-blocks}
 use Rattle.layers.specs.Size.{storeRefusal}
 use Rattle.layers.proofs.Sizing.{stores-suffice}
@@ -18,7 +20,7 @@ use Rattle.subsets.proofs.Refusing.{width-bounds}
 use Rattle.searching.specs.Finding.{refusedWith}
 use Rattle.searching.specs.Refusal.{orElse, widthRefusal, bufferRefusal, searchRefusal, directRefusal, layeredRefusal}
 use Rattle.searching.specs.Pass.{Searchable, Suffice, Won}
-use Rattle.searching.specs.Search.{Search, sampleOf, blocksOf}
+use Rattle.searching.specs.Search.{Search, StretchSearch, answerOf}
 use Rattle.searching.specs.declared.finding.Finding.{Finding}
 use Rattle.searching.specs.declared.finding.Searched.{Searched}
 
@@ -62,62 +64,82 @@ buffer-free k a b e =
 
 -- ---- what can be searched
 
--- the sampler has these words, and the width fits its block
-pub record SearchFree (s : Sampler) (words k : ℕ) : Type 0 where
+-- the sampler has the blocks from `first` to before `end`
+pub record Ordered (s : Sampler) (first end : ℕ) : Type 0 where
+  pub order : first ≤ end
+  pub held : end ≤ blocksOf s
+
+pub stretch-free : (s : Sampler) (first end : ℕ) → stretchRefusal s first end ≡ 0 → Ordered s first end
+unfolding stretchRefusal
+stretch-free s first end e =
+    let p = passed (leb first end) (cond (leb end (blocksOf s)) 0 18) 18 (omega arith) e in
+    let q = passed (leb end (blocksOf s)) 0 18 (omega arith) (p .1) in
+    record { order = leb-true first end (p .0); held = leb-true end (blocksOf s) (q .0) }
+
+-- the sampler has these words and these blocks, and the width fits its block
+pub record SearchFree (s : Sampler) (words first end k : ℕ) : Type 0 where
   pub usable : Usable s words
+  pub ordered : Ordered s first end
   pub width : Width (s .«block_size») k
 
-pub search-free : (s : Sampler) (words k : ℕ) → searchRefusal s words k ≡ 0 → SearchFree s words k
+pub search-free : (s : Sampler) (words first end k : ℕ) → searchRefusal s words first end k ≡ 0 → SearchFree s words first end k
 unfolding searchRefusal
-search-free s words k e =
+search-free s words first end k e =
     let p = neither (samplerRefusal s words) _ e in
-    record { usable = usable s words (p .0); width = width-free (s .«block_size») k (p .1) }
+    let q = neither (stretchRefusal s first end) _ (p .1) in
+    record { usable = usable s words (p .0); ordered = stretch-free s first end (q .0); width = width-free (s .«block_size») k (q .1) }
 
-pub searchable : (s : Sampler) (words k : ℕ) → SearchFree s words k → Searchable words (stride (s .«block_size») words) (blocksOf s) (s .«block_size») k
-searchable s words k f =
+pub searchable : (s : Sampler) (words first end k : ℕ) (x : Stretch) → x ≡ stretchOf s words first end → SearchFree s words first end k → Searchable words x k
+searchable s words first end k x is f =
     let B = s .«block_size» in
     let v = valid-facts B (f .usable .valid) in
-    let blocks = room-blocks B words (s .taken) v (f .usable .within) in
-    record {
+    let blocks = le-trans (f .ordered .held) (room-blocks B words (s .taken) v (f .usable .within)) in
+    rw is (record {
       some = f .width .some;
       width = f .width .width;
       chosen = f .width .chosen;
       size = v .high;
-      rows = omega (arith, div-mul-le-self words B, mul-comm B (words / B));
-      blocks = (le-trans blocks (min-le-left _ _), le-trans blocks (min-le-right _ _));
-    }
+      rows = (omega (arith, div-mul-le-self words B, mul-comm B (words / B)), (f .ordered .order, le-trans blocks (min-le-left _ _), le-trans blocks (min-le-right _ _)));
+    })
 
-pub record DirectFree (s : Sampler) (words k bins order : ℕ) : Type 0 where
-  pub search : SearchFree s words k
+pub record DirectFree (s : Sampler) (words first end k bins order : ℕ) : Type 0 where
+  pub search : SearchFree s words first end k
   pub room : (2 ^ k ≤ bins) × (2 ^ k ≤ order)
 
-pub direct-free : (s : Sampler) (words k bins order : ℕ) → directRefusal s words k bins order ≡ 0 → DirectFree s words k bins order
+pub direct-free : (s : Sampler) (words first end k bins order : ℕ) → directRefusal s words first end k bins order ≡ 0 → DirectFree s words first end k bins order
 unfolding directRefusal
-direct-free s words k bins order e =
-    let p = neither (searchRefusal s words k) _ e in
-    record { search = search-free s words k (p .0); room = buffer-free k bins order (p .1) }
+direct-free s words first end k bins order e =
+    let p = neither (searchRefusal s words first end k) _ e in
+    record { search = search-free s words first end k (p .0); room = buffer-free k bins order (p .1) }
 
-pub record LayeredFree (s : Sampler) (words k a b bins order : ℕ) : Type 0 where
-  pub search : SearchFree s words k
+pub record LayeredFree (s : Sampler) (words first end k a b bins order : ℕ) : Type 0 where
+  pub search : SearchFree s words first end k
   pub stores : Suffice (s .«block_size») k a b
   pub room : (2 ^ k ≤ bins) × (2 ^ k ≤ order)
 
-pub layered-free : (s : Sampler) (words k a b bins order : ℕ) → layeredRefusal s words k a b bins order ≡ 0 → LayeredFree s words k a b bins order
+pub layered-free : (s : Sampler) (words first end k a b bins order : ℕ) → layeredRefusal s words first end k a b bins order ≡ 0
+    → LayeredFree s words first end k a b bins order
 unfolding layeredRefusal
-layered-free s words k a b bins order e =
-    let p = neither (searchRefusal s words k) _ e in
+layered-free s words first end k a b bins order e =
+    let p = neither (searchRefusal s words first end k) _ e in
     let q = neither (storeRefusal (s .«block_size») k a b) _ (p .1) in
-    record { search = search-free s words k (p .0); stores = stores-suffice (s .«block_size») k a b (q .0); room = buffer-free k bins order (q .1) }
+    record { search = search-free s words first end k (p .0); stores = stores-suffice (s .«block_size») k a b (q .0); room = buffer-free k bins order (q .1) }
 
 -- ---- the promise
 
-pub search-refused : (r : ℕ) (s : Sampler) (ws : List ℕ) (k : ℕ) (bins order : List ℕ) (answer : Searched)
-    → (r ≡ 0 → ⊥) → answer ≡ refusedWith r → Search r s ws k bins order answer bins order
-search-refused zero s ws k bins order answer h e = absurd (h refl)
-search-refused (suc r) s ws k bins order answer h e = record { answered = e; counted = refl; ordered = refl }
+-- the refusal that is answered
+pub said-is : (r : ℕ) (bit : ℕ → ℕ → ℕ) (n B k : ℕ) (answer : Searched) → answer ≡ answerOf r bit n B k → answer .refusal ≡ r
+said-is zero bit n B k answer e = ap (λ (q : Searched). q .refusal) e
+said-is (suc r) bit n B k answer e = ap (λ (q : Searched). q .refusal) e
 
-pub search-found : (r : ℕ) (s : Sampler) (ws : List ℕ) (k : ℕ) (bins order : List ℕ) (f : Finding) (bins′ order′ : List ℕ)
-    → r ≡ 0 → Won (sampleOf s ws) (blocksOf s) (s .«block_size») k bins order f bins′ order′
-    → Search r s ws k bins order (record { refusal = 0; finding = f }) bins′ order′
-search-found r s ws k bins order f bins′ order′ e w =
+pub search-refused : (r : ℕ) (bit : ℕ → ℕ → ℕ) (n B k : ℕ) (bins order : List ℕ) (answer : Searched)
+    → (r ≡ 0 → ⊥) → answer ≡ refusedWith r → Search r bit n B k bins order answer bins order
+search-refused zero bit n B k bins order answer h e = absurd (h refl)
+search-refused (suc r) bit n B k bins order answer h e = record { answered = e; counted = refl; ordered = refl }
+
+pub search-found : (r : ℕ) (s : Sampler) (ws : List ℕ) (first end k : ℕ) (x : Stretch) (bins order : List ℕ) (f : Finding) (bins′ order′ : List ℕ)
+    → x ≡ stretchOf s (length ws) first end → r ≡ 0 → Won (stretchBit x ws) (span x) (x .«block_size») k bins order f bins′ order′
+    → StretchSearch r s ws first end k bins order (record { refusal = 0; finding = f }) bins′ order′
+search-found r s ws first end k x bins order f bins′ order′ is e won =
+    let w = subst (λ (y : Stretch). Won (stretchBit y ws) (span y) (y .«block_size») k bins order f bins′ order′) is won in
     rw e (record { answered = ap (λ (g : Finding). record { refusal = 0; finding = g }) (w .found); counted = w .counted; ordered = w .ordered })

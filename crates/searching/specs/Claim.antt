@@ -1,13 +1,13 @@
 -- The claim over a whole list of feeds from a fresh sampler, refused and empty ones among them, with the searches after it.
 use mathlib.Core.Path.{_≡_}
 use mathlib.Core.Logic.{_⊎_}
-use Prim.Native.Nat.{ℕ, _^_, _≤_}
+use Prim.Native.Nat.{ℕ, _-_, _^_, _≤_, _<_}
 use mathlib.Core.List.{List, [], _∷_, _++_}
 use lib.Dec.{T}
 use lib.Ieee.{lt}
 use lib.ListN.{length, take}
 use Rattle.counting.specs.Recording.{recording, refusalsFrom, blocksIn, recordedBit}
-use Rattle.counting.specs.Sample.{countsOf}
+use Rattle.counting.specs.Sample.{onward, countsOf}
 use Rattle.counting.specs.Sampling.{startedOf, startedWords, fedOf, fedWords}
 use Rattle.counting.specs.declared.sampling.Sampler.{Sampler}
 use Rattle.counting.specs.declared.sampling.Started.{Started}
@@ -21,44 +21,54 @@ use Rattle.searching.specs.Search.{DirectSearch, LayeredSearch}
 use Rattle.searching.specs.declared.finding.Finding.{Finding}
 use Rattle.searching.specs.declared.finding.Searched.{Searched}
 
--- A start of B on the words ws that is not refused, and feeds of the pieces after it, each given the sampler last returned and the words as they are then:
--- what each feed answered, the sampler last returned and the words. Only the promises of `start` and `feed` are used.
-pub data Session (B : ℕ) (ws : List ℕ) : List (List ℕ) → List ℕ → Sampler → List ℕ → Type 0 where
-  fresh : (r : Started) (ws′ : List ℕ) → r ≡ startedOf B (length ws) → ws′ ≡ startedWords B ws → r .refusal ≡ 0 → Session B ws [] [] (r .sampler) ws′
-  next : {pieces : List (List ℕ)} {answers : List ℕ} {s : Sampler} {ws′ : List ℕ} → Session B ws pieces answers s ws′
+-- An acquisition: a start of B on the words ws that is not refused, and feeds of the pieces after it, each given the sampler last returned and the words
+-- as they are then; what each feed answered, the sampler last returned and the words. Only the promises of `start` and `feed` are used.
+pub data Acquisition (B : ℕ) (ws : List ℕ) : List (List ℕ) → List ℕ → Sampler → List ℕ → Type 0 where
+  fresh : (r : Started) (ws′ : List ℕ) → r ≡ startedOf B (length ws) → ws′ ≡ startedWords B ws → r .refusal ≡ 0 → Acquisition B ws [] [] (r .sampler) ws′
+  next : {pieces : List (List ℕ)} {answers : List ℕ} {s : Sampler} {ws′ : List ℕ} → Acquisition B ws pieces answers s ws′
       → (piece : List ℕ) (r : Fed) (ws″ : List ℕ) → r ≡ fedOf s (length ws′) (length piece) → ws″ ≡ fedWords s ws′ piece
-      → Session B ws (pieces ++ (piece ∷ [])) (answers ++ (r .refusal ∷ [])) (r .sampler) ws″
+      → Acquisition B ws (pieces ++ (piece ∷ [])) (answers ++ (r .refusal ∷ [])) (r .sampler) ws″
 
--- The finding f, with the counts and the order left in the buffers, is the best of width k in the recording that holds `held`.
-pub record Best (B : ℕ) (held : List ℕ) (k : ℕ) (f : Finding) (bins order : List ℕ) : Type 0 where
+-- The finding f, with the counts and the order left in the buffers, is the best of width k in the sample of n blocks of B bits.
+pub record Best (bit : ℕ → ℕ → ℕ) (n B k : ℕ) (f : Finding) (bins order : List ℕ) : Type 0 where
   pub block : f .«block_size» ≡ B
   pub width : f .width ≡ k
   -- the chosen bits, with zeros past them
   pub chosen : Subset B k (take k (f .bits))
   pub zeros : f .bits ≡ padded (take k (f .bits))
-  -- the counts are those made block by block over the recording's bytes
-  pub counted : take (2 ^ k) bins ≡ countsOf (recordedBit B held) (blocksIn B held) (take k (f .bits))
+  -- the counts are those made block by block over the sample
+  pub counted : take (2 ^ k) bins ≡ countsOf bit n (take k (f .bits))
   -- division, z and order are the rule's for these counts
-  pub division : f .division ≡ scoreOf (blocksIn B held) k (take (2 ^ k) bins) .division
-  pub z : f .z ≡ scoreOf (blocksIn B held) k (take (2 ^ k) bins) .z
+  pub division : f .division ≡ scoreOf n k (take (2 ^ k) bins) .division
+  pub z : f .z ≡ scoreOf n k (take (2 ^ k) bins) .z
   pub ordered : take (2 ^ k) order ≡ orderOf (take (2 ^ k) bins)
   -- every other k-subset, scored in the same way, has a smaller z, or an equal z and lexicographically larger bits
   pub beats : (t : List ℕ) → Subset B k t
-      → (t ≡ take k (f .bits))
-      ⊎ (T (lt (zOf (recordedBit B held) (blocksIn B held) t) (f .z)) ⊎ ((zOf (recordedBit B held) (blocksIn B held) t ≡ f .z) × T (lexLt (take k (f .bits)) t)))
+      → (t ≡ take k (f .bits)) ⊎ (T (lt (zOf bit n t) (f .z)) ⊎ ((zOf bit n t ≡ f .z) × T (lexLt (take k (f .bits)) t)))
 
--- What holds of a direct search after a session: it succeeds where width and buffers suffice, and where it succeeds it has found the best.
-pub record DirectClaim (B words : ℕ) (pieces : List (List ℕ)) (k : ℕ) (bins order : List ℕ) (r : Searched) (bins′ order′ : List ℕ) : Type 0 where
-  pub succeeds : 1 ≤ k → k ≤ 20 → k ≤ B → 2 ^ k ≤ length bins → 2 ^ k ≤ length order → r .refusal ≡ 0
-  pub best : r .refusal ≡ 0 → Best B (recording B words pieces) k (r .finding) bins′ order′
+-- .. in the blocks from `first` to before `end` of the recording that holds `held`.
+abbrev pub BestIn : ℕ → List ℕ → ℕ → ℕ → ℕ → Finding → List ℕ → List ℕ → Type 0
+BestIn B held first end k = Best (onward first (recordedBit B held)) (end - first) B k
 
--- The same of a layered search, where the stores suffice too.
-pub record LayeredClaim (B words : ℕ) (pieces : List (List ℕ)) (k : ℕ) (first second bins order : List ℕ) (r : Searched) (bins′ order′ : List ℕ) : Type 0 where
-  pub succeeds :
-      1 ≤ k → k ≤ 20 → k ≤ B
-      → storeSize B k ≤ 2 ^ 32 → storeSize B k ≤ length first → storeSize B k ≤ length second
-      → 2 ^ k ≤ length bins → 2 ^ k ≤ length order → r .refusal ≡ 0
-  pub best : r .refusal ≡ 0 → Best B (recording B words pieces) k (r .finding) bins′ order′
+-- .. in all its blocks.
+abbrev pub BestOf : ℕ → List ℕ → ℕ → Finding → List ℕ → List ℕ → Type 0
+BestOf B held k = Best (recordedBit B held) (blocksIn B held) B k
+
+-- What holds of a search after an acquisition of the pieces: it is refused with 18 where the recording has not the blocks of the stretch, it succeeds where
+-- it has and `Room` is there, and where it succeeds it has found the best of these blocks.
+pub record SearchClaim (B : ℕ) (held : List ℕ) (first end k : ℕ) (Room : Type 0) (r : Searched) (bins′ order′ : List ℕ) : Type 0 where
+  pub outside : (end < first) ⊎ (blocksIn B held < end) → r .refusal ≡ 18
+  pub succeeds : first ≤ end → end ≤ blocksIn B held → Room → r .refusal ≡ 0
+  pub best : r .refusal ≡ 0 → BestIn B held first end k (r .finding) bins′ order′
+
+-- width and buffers suffice for the direct search
+abbrev pub DirectRoom : ℕ → ℕ → List ℕ → List ℕ → Type 0
+DirectRoom B k bins order = (1 ≤ k) × (k ≤ 20) × (k ≤ B) × (2 ^ k ≤ length bins) × (2 ^ k ≤ length order)
+
+-- and the stores for the layered one
+abbrev pub LayeredRoom : ℕ → ℕ → List ℕ → List ℕ → List ℕ → List ℕ → Type 0
+LayeredRoom B k lower upper bins order =
+    DirectRoom B k bins order × (storeSize B k ≤ 2 ^ 32) × (storeSize B k ≤ length lower) × (storeSize B k ≤ length upper)
 
 -- Two searches found the same, and left the same counts and order.
 pub record Same (k : ℕ) (r : Searched) (bins order : List ℕ) (r′ : Searched) (bins′ order′ : List ℕ) : Type 0 where
@@ -66,24 +76,26 @@ pub record Same (k : ℕ) (r : Searched) (bins order : List ℕ) (r′ : Searche
   pub counts : take (2 ^ k) bins ≡ take (2 ^ k) bins′
   pub orders : take (2 ^ k) order ≡ take (2 ^ k) order′
 
--- What holds after a session: a feed was refused just where the plain recording refuses it, each search finds the best of the recording, and where both
--- succeed they are the same.
+-- What holds after an acquisition: a feed was refused just where the plain recording refuses it, each search of a stretch finds the best of its blocks, and
+-- where both succeed they are the same.
 pub record Claim (B : ℕ) (ws : List ℕ) (pieces : List (List ℕ)) (answers : List ℕ) (s : Sampler) (ws′ : List ℕ) : Type 0 where
   pub fed : answers ≡ refusalsFrom B (length ws) [] pieces
   pub direct :
-      (k : ℕ) (bins order : List ℕ) (r : Searched) (bins′ order′ : List ℕ)
-      → DirectSearch s ws′ k bins order r bins′ order′ → DirectClaim B (length ws) pieces k bins order r bins′ order′
+      (first end k : ℕ) (bins order : List ℕ) (r : Searched) (bins′ order′ : List ℕ)
+      → DirectSearch s ws′ first end k bins order r bins′ order′
+      → SearchClaim B (recording B (length ws) pieces) first end k (DirectRoom B k bins order) r bins′ order′
   pub layered :
-      (k : ℕ) (first second bins order : List ℕ) (r : Searched) (first′ second′ bins′ order′ : List ℕ)
-      → LayeredSearch s ws′ k first second bins order r first′ second′ bins′ order′ → LayeredClaim B (length ws) pieces k first second bins order r bins′ order′
+      (first end k : ℕ) (lower upper bins order : List ℕ) (r : Searched) (lower′ upper′ bins′ order′ : List ℕ)
+      → LayeredSearch s ws′ first end k lower upper bins order r lower′ upper′ bins′ order′
+      → SearchClaim B (recording B (length ws) pieces) first end k (LayeredRoom B k lower upper bins order) r bins′ order′
   pub same :
-      (k : ℕ) (bins order : List ℕ) (r : Searched) (bins′ order′ : List ℕ) → DirectSearch s ws′ k bins order r bins′ order′
-      → (first second binsₗ orderₗ : List ℕ) (rₗ : Searched) (first′ second′ binsₗ′ orderₗ′ : List ℕ)
-      → LayeredSearch s ws′ k first second binsₗ orderₗ rₗ first′ second′ binsₗ′ orderₗ′
+      (first end k : ℕ) (bins order : List ℕ) (r : Searched) (bins′ order′ : List ℕ) → DirectSearch s ws′ first end k bins order r bins′ order′
+      → (lower upper binsₗ orderₗ : List ℕ) (rₗ : Searched) (lower′ upper′ binsₗ′ orderₗ′ : List ℕ)
+      → LayeredSearch s ws′ first end k lower upper binsₗ orderₗ rₗ lower′ upper′ binsₗ′ orderₗ′
       → r .refusal ≡ 0 → rₗ .refusal ≡ 0 → Same k r bins′ order′ rₗ binsₗ′ orderₗ′
 
--- Theorem: that holds after every session.
+-- Theorem: that holds after every acquisition.
 abbrev pub Claims : Type 0
 Claims =
     (B : ℕ) (ws : List ℕ) (pieces : List (List ℕ)) (answers : List ℕ) (s : Sampler) (ws′ : List ℕ)
-    → Session B ws pieces answers s ws′ → Claim B ws pieces answers s ws′
+    → Acquisition B ws pieces answers s ws′ → Claim B ws pieces answers s ws′

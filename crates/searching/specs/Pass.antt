@@ -1,10 +1,11 @@
 -- One pass over the subsets: what it needs of its arguments, and what it leaves.
-use Prim.Native.Nat.{ℕ, _-_, _*_, _^_, _≤_, _<_, max}
+use Prim.Native.Nat.{ℕ, _-_, _^_, _≤_, _<_, max}
 use mathlib.Core.Path.{_≡_}
 use mathlib.Core.List.{List, _++_}
 use lib.ListN.{length, drop}
-use Rattle.counting.specs.Rows.{BlocksIn}
 use Rattle.counting.specs.Sample.{countsOf}
+use Rattle.counting.specs.Stretch.{StretchIn}
+use Rattle.counting.specs.declared.stretch.Stretch.{Stretch}
 use Rattle.layers.specs.Layers.{Holds}
 use Rattle.layers.specs.Run.{Run, RunRoom}
 use Rattle.layers.specs.Size.{Stored}
@@ -12,14 +13,13 @@ use Rattle.ranking.specs.Order.{orderOf}
 use Rattle.searching.specs.Finding.{winnerOf, findingOf}
 use Rattle.searching.specs.declared.finding.Finding.{Finding}
 
--- a block and a width within their limits, a row of `stride` words for each bit, and n blocks in them
-pub record Searchable (words stride n B k : ℕ) : Type 0 where
+-- a block and a width within their limits, and the stretch in the words
+pub record Searchable (words : ℕ) (x : Stretch) (k : ℕ) : Type 0 where
   pub some : 1 ≤ k
   pub width : k ≤ 20
-  pub chosen : k ≤ B
-  pub size : B ≤ 4096
-  pub rows : B * stride ≤ words
-  pub blocks : BlocksIn stride n
+  pub chosen : k ≤ x .«block_size»
+  pub size : x .«block_size» ≤ 4096
+  pub rows : StretchIn x words
 
 -- both buffers have room for 2 ^ k entries
 abbrev pub BufferRoom : ℕ → List ℕ → List ℕ → Type 0

@@ -3,6 +3,7 @@ use Prim.Native.Nat.{ℕ, zero, suc, _^_}
 use mathlib.Core.Bool.{cond}
 use lib.Dec.{leb}
 use Rattle.counting.specs.Sampling.{samplerRefusal}
+use Rattle.counting.specs.Stretch.{stretchRefusal}
 use Rattle.counting.specs.declared.sampling.Sampler.{Sampler}
 use Rattle.layers.specs.Size.{storeRefusal}
 use Rattle.subsets.specs.Bits.{validWidth}
@@ -20,15 +21,16 @@ widthRefusal B k = cond (validWidth k) (cond (leb k B) 0 3) 2
 unfoldable pub bufferRefusal : ℕ → ℕ → ℕ → ℕ
 bufferRefusal k a b = cond (leb (2 ^ k) a) (cond (leb (2 ^ k) b) 0 7) 7
 
--- what both searches refuse first: 4, 2, 3
-unfoldable pub searchRefusal : Sampler → ℕ → ℕ → ℕ
-searchRefusal s words k = orElse (samplerRefusal s words) (widthRefusal (s .«block_size») k)
+-- what both searches refuse first: 4, 18, 2, 3
+unfoldable pub searchRefusal : Sampler → ℕ → ℕ → ℕ → ℕ → ℕ
+searchRefusal s words first end k =
+    orElse (samplerRefusal s words) (orElse (stretchRefusal s first end) (widthRefusal (s .«block_size») k))
 
--- the direct search: 4, 2, 3, 7
-unfoldable pub directRefusal : Sampler → ℕ → ℕ → ℕ → ℕ → ℕ
-directRefusal s words k bins order = orElse (searchRefusal s words k) (bufferRefusal k bins order)
+-- the direct search: 4, 18, 2, 3, 7
+unfoldable pub directRefusal : Sampler → ℕ → ℕ → ℕ → ℕ → ℕ → ℕ → ℕ
+directRefusal s words first end k bins order = orElse (searchRefusal s words first end k) (bufferRefusal k bins order)
 
--- the layered search: 4, 2, 3, 6, 7, with stores of a and b entries
-unfoldable pub layeredRefusal : Sampler → ℕ → ℕ → ℕ → ℕ → ℕ → ℕ → ℕ
-layeredRefusal s words k a b bins order =
-    orElse (searchRefusal s words k) (orElse (storeRefusal (s .«block_size») k a b) (bufferRefusal k bins order))
+-- the layered search: 4, 18, 2, 3, 6, 7, with stores of a and b entries
+unfoldable pub layeredRefusal : Sampler → ℕ → ℕ → ℕ → ℕ → ℕ → ℕ → ℕ → ℕ → ℕ
+layeredRefusal s words first end k a b bins order =
+    orElse (searchRefusal s words first end k) (orElse (storeRefusal (s .«block_size») k a b) (bufferRefusal k bins order))

@@ -2,32 +2,32 @@
 ghost use mathlib.Core.Path.{_≡_};
 ghost use Prim.Native.Nat.{_+_, _≤_, _<_};
 ghost use lib.ListN.{length, drop};
-ghost use Rattle.counting.specs.Words.{storedBit};
+ghost use Rattle.counting.specs.Stretch.{span, stretchBit};
 ghost use Rattle.layers.specs.Layers.{Holds};
 ghost use Rattle.layers.specs.Run.{RunRoom};
 ghost use Rattle.layers.specs.Size.{storeSize};
 ghost use Rattle.searching.specs.Pass.{Searchable, BufferRoom, Suffice, Won};
 use crate::finding::Finding;
 use crate::pass::find;
+use counting::stretch::Stretch;
+use counting::stretch::span;
 use layers::layers::fill_layer;
 
 // Finds the best k-subset by layers. The first W entries of each store are free, the others stay.
 pub fn find_layered(
     words: &[u64],
-    stride: usize,
-    n: usize,
-    block_size: usize,
+    stretch: Stretch,
     k: usize,
-    first: &mut [u32],
-    second: &mut [u32],
+    lower: &mut [u32],
+    upper: &mut [u32],
     bins: &mut [u32],
     order: &mut [u32],
 ) -> Finding
-    requires { ⌜ Searchable (length (now words)) stride n «block_size» k ⌝ }
-    requires { ⌜ Suffice «block_size» k (length (now first)) (length (now second)) ⌝ }
+    requires { ⌜ Searchable (length (now words)) stretch k ⌝ }
+    requires { ⌜ Suffice (stretch .«block_size») k (length (now lower)) (length (now upper)) ⌝ }
     requires { ⌜ BufferRoom k (now bins) (now order) ⌝ }
-    ensures { λ r. ⌜ Won (storedBit stride (now (words .entry))) n «block_size» k (now (bins .entry)) (now (order .entry)) r (now (bins .exit)) (now (order .exit)) ⌝ }
-    ensures { λ _. ⌜ (drop (storeSize «block_size» k) (now (first .exit)) ≡ drop (storeSize «block_size» k) (now (first .entry))) × (drop (storeSize «block_size» k) (now (second .exit)) ≡ drop (storeSize «block_size» k) (now (second .entry))) ⌝ }
+    ensures { λ r. ⌜ Won (stretchBit stretch (now (words .entry))) (span stretch) (stretch .«block_size») k (now (bins .entry)) (now (order .entry)) r (now (bins .exit)) (now (order .exit)) ⌝ }
+    ensures { λ _. ⌜ (drop (storeSize (stretch .«block_size») k) (now (lower .exit)) ≡ drop (storeSize (stretch .«block_size») k) (now (lower .entry))) × (drop (storeSize (stretch .«block_size») k) (now (upper .exit)) ≡ drop (storeSize (stretch .«block_size») k) (now (upper .entry))) ⌝ }
 {
     let mut counts = no_counts();
     let mut ranks = no_ranks();
@@ -35,12 +35,10 @@ pub fn find_layered(
         &mut counts[..],
         &mut ranks[..],
         words,
-        stride,
-        n,
-        block_size,
+        stretch,
         k,
-        first,
-        second,
+        lower,
+        upper,
         bins,
         order,
     )
@@ -65,50 +63,35 @@ fn find_in_run(
     counts: &mut [u32],
     ranks: &mut [usize],
     words: &[u64],
-    stride: usize,
-    n: usize,
-    block_size: usize,
+    stretch: Stretch,
     k: usize,
-    first: &mut [u32],
-    second: &mut [u32],
+    lower: &mut [u32],
+    upper: &mut [u32],
     bins: &mut [u32],
     order: &mut [u32],
 ) -> Finding
-    requires { ⌜ RunRoom «block_size» k (now counts) (now ranks) ⌝ }
-    requires { ⌜ Searchable (length (now words)) stride n «block_size» k ⌝ }
-    requires { ⌜ Suffice «block_size» k (length (now first)) (length (now second)) ⌝ }
+    requires { ⌜ RunRoom (stretch .«block_size») k (now counts) (now ranks) ⌝ }
+    requires { ⌜ Searchable (length (now words)) stretch k ⌝ }
+    requires { ⌜ Suffice (stretch .«block_size») k (length (now lower)) (length (now upper)) ⌝ }
     requires { ⌜ BufferRoom k (now bins) (now order) ⌝ }
-    ensures { λ r. ⌜ Won (storedBit stride (now (words .entry))) n «block_size» k (now (bins .entry)) (now (order .entry)) r (now (bins .exit)) (now (order .exit)) ⌝ }
-    ensures { λ _. ⌜ (drop (storeSize «block_size» k) (now (first .exit)) ≡ drop (storeSize «block_size» k) (now (first .entry))) × (drop (storeSize «block_size» k) (now (second .exit)) ≡ drop (storeSize «block_size» k) (now (second .entry))) ⌝ }
+    ensures { λ r. ⌜ Won (stretchBit stretch (now (words .entry))) (span stretch) (stretch .«block_size») k (now (bins .entry)) (now (order .entry)) r (now (bins .exit)) (now (order .exit)) ⌝ }
+    ensures { λ _. ⌜ (drop (storeSize (stretch .«block_size») k) (now (lower .exit)) ≡ drop (storeSize (stretch .«block_size») k) (now (lower .entry))) × (drop (storeSize (stretch .«block_size») k) (now (upper .exit)) ≡ drop (storeSize (stretch .«block_size») k) (now (upper .entry))) ⌝ }
 {
     // Layer 0: the one bin of the empty subset has all blocks.
-    let none = [n as u32];
+    let none = [span(stretch)];
     if k == 1 {
-        return find(
-            words,
-            stride,
-            n,
-            block_size,
-            k,
-            &none,
-            counts,
-            ranks,
-            bins,
-            order,
-        );
+        return find(words, stretch, k, &none, counts, ranks, bins, order);
     }
-    fill_layer(1, words, stride, n, block_size, &none, counts, ranks, first);
+    fill_layer(1, words, stretch, &none, counts, ranks, lower);
     climb(
         1,
         counts,
         ranks,
         words,
-        stride,
-        n,
-        block_size,
+        stretch,
         k,
-        first,
-        second,
+        lower,
+        upper,
         bins,
         order,
     )
@@ -121,9 +104,7 @@ fn climb(
     counts: &mut [u32],
     ranks: &mut [usize],
     words: &[u64],
-    stride: usize,
-    n: usize,
-    block_size: usize,
+    stretch: Stretch,
     k: usize,
     lower: &mut [u32],
     upper: &mut [u32],
@@ -131,48 +112,25 @@ fn climb(
     order: &mut [u32],
 ) -> Finding
     requires { ⌜ (1 ≤ d) × (d < k) ⌝ }
-    requires { ⌜ RunRoom «block_size» k (now counts) (now ranks) ⌝ }
-    requires { ⌜ Searchable (length (now words)) stride n «block_size» k ⌝ }
-    requires { ⌜ Suffice «block_size» k (length (now lower)) (length (now upper)) ⌝ }
-    requires { ⌜ Holds (storedBit stride (now words)) n «block_size» d (now lower) ⌝ }
+    requires { ⌜ RunRoom (stretch .«block_size») k (now counts) (now ranks) ⌝ }
+    requires { ⌜ Searchable (length (now words)) stretch k ⌝ }
+    requires { ⌜ Suffice (stretch .«block_size») k (length (now lower)) (length (now upper)) ⌝ }
+    requires { ⌜ Holds (stretchBit stretch (now words)) (span stretch) (stretch .«block_size») d (now lower) ⌝ }
     requires { ⌜ BufferRoom k (now bins) (now order) ⌝ }
-    ensures { λ r. ⌜ Won (storedBit stride (now (words .entry))) n «block_size» k (now (bins .entry)) (now (order .entry)) r (now (bins .exit)) (now (order .exit)) ⌝ }
-    ensures { λ _. ⌜ (drop (storeSize «block_size» k) (now (lower .exit)) ≡ drop (storeSize «block_size» k) (now (lower .entry))) × (drop (storeSize «block_size» k) (now (upper .exit)) ≡ drop (storeSize «block_size» k) (now (upper .entry))) ⌝ }
+    ensures { λ r. ⌜ Won (stretchBit stretch (now (words .entry))) (span stretch) (stretch .«block_size») k (now (bins .entry)) (now (order .entry)) r (now (bins .exit)) (now (order .exit)) ⌝ }
+    ensures { λ _. ⌜ (drop (storeSize (stretch .«block_size») k) (now (lower .exit)) ≡ drop (storeSize (stretch .«block_size») k) (now (lower .entry))) × (drop (storeSize (stretch .«block_size») k) (now (upper .exit)) ≡ drop (storeSize (stretch .«block_size») k) (now (upper .entry))) ⌝ }
 {
     let above = d + 1;
     if above == k {
-        return find(
-            words,
-            stride,
-            n,
-            block_size,
-            k,
-            lower,
-            counts,
-            ranks,
-            bins,
-            order,
-        );
+        return find(words, stretch, k, lower, counts, ranks, bins, order);
     }
-    fill_layer(
-        above,
-        words,
-        stride,
-        n,
-        block_size,
-        lower,
-        counts,
-        ranks,
-        upper,
-    );
+    fill_layer(above, words, stretch, lower, counts, ranks, upper);
     climb(
         above,
         counts,
         ranks,
         words,
-        stride,
-        n,
-        block_size,
+        stretch,
         k,
         upper,
         lower,

@@ -2,7 +2,7 @@
 ghost use mathlib.Core.Path.{_≡_};
 ghost use Prim.Native.Nat.{_^_, _≤_};
 ghost use lib.ListN.{length, drop};
-ghost use Rattle.counting.specs.Words.{storedBit};
+ghost use Rattle.counting.specs.Stretch.{span, stretchBit};
 ghost use Rattle.ranking.specs.Ranking.{Roots};
 ghost use Rattle.subsets.specs.Subsets.{padded};
 ghost use Rattle.searching.specs.Finding.{winnerOf};
@@ -11,7 +11,8 @@ use crate::candidate::rank_candidate;
 use crate::finding::Finding;
 use crate::stepping::begin;
 use crate::stepping::step;
-use ranking::ranking::Ranking;
+use counting::stretch::Stretch;
+use counting::stretch::span;
 use ranking::ranking::fill_roots;
 use subsets::stepping::first;
 
@@ -19,9 +20,7 @@ use subsets::stepping::first;
 // An empty layer means that every bin is counted; else layer k - 1 stands in it. What is left in counts and ranks is free.
 pub fn find(
     words: &[u64],
-    stride: usize,
-    n: usize,
-    block_size: usize,
+    stretch: Stretch,
     k: usize,
     layer: &[u32],
     counts: &mut [u32],
@@ -29,20 +28,18 @@ pub fn find(
     bins: &mut [u32],
     order: &mut [u32],
 ) -> Finding
-    requires { ⌜ Searchable (length (now words)) stride n «block_size» k ⌝ }
-    requires { ⌜ LayerBelow (storedBit stride (now words)) n «block_size» k (now layer) ⌝ }
-    requires { ⌜ Space «block_size» k (now layer) (now counts) (now ranks) ⌝ }
+    requires { ⌜ Searchable (length (now words)) stretch k ⌝ }
+    requires { ⌜ LayerBelow (stretchBit stretch (now words)) (span stretch) (stretch .«block_size») k (now layer) ⌝ }
+    requires { ⌜ Space (stretch .«block_size») k (now layer) (now counts) (now ranks) ⌝ }
     requires { ⌜ BufferRoom k (now bins) (now order) ⌝ }
-    ensures { λ r. ⌜ Won (storedBit stride (now (words .entry))) n «block_size» k (now (bins .entry)) (now (order .entry)) r (now (bins .exit)) (now (order .exit)) ⌝ }
+    ensures { λ r. ⌜ Won (stretchBit stretch (now (words .entry))) (span stretch) (stretch .«block_size») k (now (bins .entry)) (now (order .entry)) r (now (bins .exit)) (now (order .exit)) ⌝ }
 {
     let mut roots = no_roots();
     let size = table_size(k);
     find_with(
         &mut roots[..size],
         words,
-        stride,
-        n,
-        block_size,
+        stretch,
         k,
         layer,
         counts,
@@ -70,9 +67,7 @@ fn table_size(k: usize) -> usize
 fn find_with(
     roots: &mut [f64],
     words: &[u64],
-    stride: usize,
-    n: usize,
-    block_size: usize,
+    stretch: Stretch,
     k: usize,
     layer: &[u32],
     counts: &mut [u32],
@@ -81,43 +76,20 @@ fn find_with(
     order: &mut [u32],
 ) -> Finding
     requires { ⌜ length (now roots) ≤ 256 ⌝ }
-    requires { ⌜ Searchable (length (now words)) stride n «block_size» k ⌝ }
-    requires { ⌜ LayerBelow (storedBit stride (now words)) n «block_size» k (now layer) ⌝ }
-    requires { ⌜ Space «block_size» k (now layer) (now counts) (now ranks) ⌝ }
+    requires { ⌜ Searchable (length (now words)) stretch k ⌝ }
+    requires { ⌜ LayerBelow (stretchBit stretch (now words)) (span stretch) (stretch .«block_size») k (now layer) ⌝ }
+    requires { ⌜ Space (stretch .«block_size») k (now layer) (now counts) (now ranks) ⌝ }
     requires { ⌜ BufferRoom k (now bins) (now order) ⌝ }
-    ensures { λ r. ⌜ Won (storedBit stride (now (words .entry))) n «block_size» k (now (bins .entry)) (now (order .entry)) r (now (bins .exit)) (now (order .exit)) ⌝ }
+    ensures { λ r. ⌜ Won (stretchBit stretch (now (words .entry))) (span stretch) (stretch .«block_size») k (now (bins .entry)) (now (order .entry)) r (now (bins .exit)) (now (order .exit)) ⌝ }
 {
-    fill_roots(roots, n as u32, k);
-    let bits = pick(
-        words,
-        stride,
-        n,
-        block_size,
-        k,
-        layer,
-        roots,
-        counts,
-        ranks,
-        bins,
-        order,
-    );
+    fill_roots(roots, span(stretch), k);
+    let bits = pick(words, stretch, k, layer, roots, counts, ranks, bins, order);
     // The pass leaves the last candidate in the buffers.
-    begin(
-        &bits[..k],
-        words,
-        stride,
-        n,
-        block_size,
-        layer,
-        counts,
-        ranks,
-    );
+    begin(&bits[..k], words, stretch, layer, counts, ranks);
     let ranking = rank_candidate(
         &bits[..k],
         words,
-        stride,
-        n,
-        block_size,
+        stretch,
         layer,
         counts,
         ranks,
@@ -126,7 +98,7 @@ fn find_with(
         order,
     );
     Finding {
-        block_size,
+        block_size: stretch.block_size,
         width: k,
         bits,
         division: ranking.division,
@@ -138,9 +110,7 @@ fn find_with(
 // The first 2 ^ k entries of the buffers, counts and ranks are free.
 fn pick(
     words: &[u64],
-    stride: usize,
-    n: usize,
-    block_size: usize,
+    stretch: Stretch,
     k: usize,
     layer: &[u32],
     roots: &[f64],
@@ -149,39 +119,26 @@ fn pick(
     bins: &mut [u32],
     order: &mut [u32],
 ) -> [u32; 20]
-    requires { ⌜ Searchable (length (now words)) stride n «block_size» k ⌝ }
-    requires { ⌜ LayerBelow (storedBit stride (now words)) n «block_size» k (now layer) ⌝ }
-    requires { ⌜ Space «block_size» k (now layer) (now counts) (now ranks) ⌝ }
+    requires { ⌜ Searchable (length (now words)) stretch k ⌝ }
+    requires { ⌜ LayerBelow (stretchBit stretch (now words)) (span stretch) (stretch .«block_size») k (now layer) ⌝ }
+    requires { ⌜ Space (stretch .«block_size») k (now layer) (now counts) (now ranks) ⌝ }
     requires { ⌜ BufferRoom k (now bins) (now order) ⌝ }
-    requires { ⌜ Roots n k (now roots) ⌝ }
-    ensures { λ r. ⌜ r ≡ padded (winnerOf (storedBit stride (now (words .entry))) n «block_size» k) ⌝ }
+    requires { ⌜ Roots (span stretch) k (now roots) ⌝ }
+    ensures { λ r. ⌜ r ≡ padded (winnerOf (stretchBit stretch (now (words .entry))) (span stretch) (stretch .«block_size») k) ⌝ }
     ensures { λ _. ⌜ (drop (2 ^ k) (now (bins .exit)) ≡ drop (2 ^ k) (now (bins .entry))) × (drop (2 ^ k) (now (order .exit)) ≡ drop (2 ^ k) (now (order .entry))) ⌝ }
 {
+    let block_size = stretch.block_size;
     if k == block_size {
         return first(k);
     }
-    walk(
-        words,
-        stride,
-        n,
-        block_size,
-        k,
-        layer,
-        roots,
-        counts,
-        ranks,
-        bins,
-        order,
-    )
+    walk(words, stretch, k, layer, roots, counts, ranks, bins, order)
 }
 
 // The pass: a later subset takes the place of the best so far only where its z is greater.
 // The first 2 ^ k entries of the buffers, left at the last candidate, are free, and so are counts and ranks.
 fn walk(
     words: &[u64],
-    stride: usize,
-    n: usize,
-    block_size: usize,
+    stretch: Stretch,
     k: usize,
     layer: &[u32],
     roots: &[f64],
@@ -190,32 +147,21 @@ fn walk(
     bins: &mut [u32],
     order: &mut [u32],
 ) -> [u32; 20]
-    requires { ⌜ Searchable (length (now words)) stride n «block_size» k ⌝ }
-    requires { ⌜ LayerBelow (storedBit stride (now words)) n «block_size» k (now layer) ⌝ }
-    requires { ⌜ Space «block_size» k (now layer) (now counts) (now ranks) ⌝ }
+    requires { ⌜ Searchable (length (now words)) stretch k ⌝ }
+    requires { ⌜ LayerBelow (stretchBit stretch (now words)) (span stretch) (stretch .«block_size») k (now layer) ⌝ }
+    requires { ⌜ Space (stretch .«block_size») k (now layer) (now counts) (now ranks) ⌝ }
     requires { ⌜ BufferRoom k (now bins) (now order) ⌝ }
-    requires { ⌜ Roots n k (now roots) ⌝ }
-    ensures { λ r. ⌜ r ≡ padded (winnerOf (storedBit stride (now (words .entry))) n «block_size» k) ⌝ }
+    requires { ⌜ Roots (span stretch) k (now roots) ⌝ }
+    ensures { λ r. ⌜ r ≡ padded (winnerOf (stretchBit stretch (now (words .entry))) (span stretch) (stretch .«block_size») k) ⌝ }
     ensures { λ _. ⌜ (drop (2 ^ k) (now (bins .exit)) ≡ drop (2 ^ k) (now (bins .entry))) × (drop (2 ^ k) (now (order .exit)) ≡ drop (2 ^ k) (now (order .entry))) ⌝ }
 {
     let mut bits = first(k);
     let mut best = bits;
-    begin(
-        &bits[..k],
-        words,
-        stride,
-        n,
-        block_size,
-        layer,
-        counts,
-        ranks,
-    );
+    begin(&bits[..k], words, stretch, layer, counts, ranks);
     let ranking = rank_candidate(
         &bits[..k],
         words,
-        stride,
-        n,
-        block_size,
+        stretch,
         layer,
         counts,
         ranks,
@@ -224,23 +170,11 @@ fn walk(
         order,
     );
     let mut z = ranking.z;
-    while step(
-        &mut bits,
-        k,
-        words,
-        stride,
-        n,
-        block_size,
-        layer,
-        counts,
-        ranks,
-    ) {
+    while step(&mut bits, k, words, stretch, layer, counts, ranks) {
         let next = rank_candidate(
             &bits[..k],
             words,
-            stride,
-            n,
-            block_size,
+            stretch,
             layer,
             counts,
             ranks,

@@ -9,34 +9,35 @@ use crate::finding::refused;
 use crate::pass::find;
 use counting::sampling::Sampler;
 use counting::sampling::sampler_refusal;
+use counting::stretch::stretch_of;
+use counting::stretch::stretch_refusal;
 use layers::size::store_refusal;
 use ranking::ranking::bin_count;
 use subsets::bits::valid_width;
 
-// The direct search: every bin of every subset is counted from the rows. Refusals 4, 2, 3, 7.
+// The direct search: every bin of every subset is counted from the rows, over the blocks from `first` to before `end`.
+// Refusals 4, 18, 2, 3, 7.
 pub fn brute_force_threads(
     sampler: Sampler,
     words: &[u64],
+    first: usize,
+    end: usize,
     k: usize,
     bins: &mut [u32],
     order: &mut [u32],
 ) -> Searched
-    ensures { λ r. ⌜ DirectSearch sampler (now (words .entry)) k (now (bins .entry)) (now (order .entry)) r (now (bins .exit)) (now (order .exit)) ⌝ }
+    ensures { λ r. ⌜ DirectSearch sampler (now (words .entry)) first end k (now (bins .entry)) (now (order .entry)) r (now (bins .exit)) (now (order .exit)) ⌝ }
 {
-    let refusal = direct_refusal(sampler, words.len(), k, bins.len(), order.len());
+    let refusal = direct_refusal(sampler, words.len(), first, end, k, bins.len(), order.len());
     if refusal != 0 {
         return refused(refusal);
     }
-    let block_size = sampler.block_size;
-    let n = sampler.taken / (block_size / 8);
     let none: [u32; 0] = [];
     let mut no_counts: [u32; 0] = [];
     let mut no_ranks: [usize; 0] = [];
     let finding = find(
         words,
-        words.len() / block_size,
-        n,
-        block_size,
+        stretch_of(sampler, words.len(), first, end),
         k,
         &none,
         &mut no_counts,
@@ -50,41 +51,42 @@ pub fn brute_force_threads(
     }
 }
 
-// The layered search: one bin of each subset is counted, and the others are worked out from the layer below. Refusals 4, 2, 3, 6, 7.
+// The layered search of these blocks: one bin of each subset is counted, and the others are worked out from the layer below.
+// Refusals 4, 18, 2, 3, 6, 7.
 // After success the first W entries of each store are free.
 pub fn brute_force(
     sampler: Sampler,
     words: &[u64],
+    first: usize,
+    end: usize,
     k: usize,
-    first: &mut [u32],
-    second: &mut [u32],
+    lower: &mut [u32],
+    upper: &mut [u32],
     bins: &mut [u32],
     order: &mut [u32],
 ) -> Searched
-    ensures { λ r. ⌜ LayeredSearch sampler (now (words .entry)) k (now (first .entry)) (now (second .entry)) (now (bins .entry)) (now (order .entry)) r (now (first .exit)) (now (second .exit)) (now (bins .exit)) (now (order .exit)) ⌝ }
+    ensures { λ r. ⌜ LayeredSearch sampler (now (words .entry)) first end k (now (lower .entry)) (now (upper .entry)) (now (bins .entry)) (now (order .entry)) r (now (lower .exit)) (now (upper .exit)) (now (bins .exit)) (now (order .exit)) ⌝ }
 {
     let refusal = layered_refusal(
         sampler,
         words.len(),
+        first,
+        end,
         k,
-        first.len(),
-        second.len(),
+        lower.len(),
+        upper.len(),
         bins.len(),
         order.len(),
     );
     if refusal != 0 {
         return refused(refusal);
     }
-    let block_size = sampler.block_size;
-    let n = sampler.taken / (block_size / 8);
     let finding = find_layered(
         words,
-        words.len() / block_size,
-        n,
-        block_size,
+        stretch_of(sampler, words.len(), first, end),
         k,
-        first,
-        second,
+        lower,
+        upper,
         bins,
         order,
     );
@@ -94,50 +96,64 @@ pub fn brute_force(
     }
 }
 
-// 4, 2, 3, 6, 7, or 0 where the layered search can be made with stores of `first` and `second` entries.
+// 4, 18, 2, 3, 6, 7, or 0 where the layered search can be made with stores of `lower` and `upper` entries.
 fn layered_refusal(
     sampler: Sampler,
     words: usize,
-    k: usize,
     first: usize,
-    second: usize,
+    end: usize,
+    k: usize,
+    lower: usize,
+    upper: usize,
     bins: usize,
     order: usize,
 ) -> u32
     requires { ⌜ 8 * words < 9223372036854775808 ⌝ }
-    ensures { λ r. ⌜ r ≡ layeredRefusal sampler words k first second bins order ⌝ }
+    ensures { λ r. ⌜ r ≡ layeredRefusal sampler words first end k lower upper bins order ⌝ }
 {
-    let refusal = search_refusal(sampler, words, k);
+    let refusal = search_refusal(sampler, words, first, end, k);
     if refusal != 0 {
         return refusal;
     }
-    let short = store_refusal(sampler.block_size, k, first, second);
+    let short = store_refusal(sampler.block_size, k, lower, upper);
     if short != 0 {
         return short;
     }
     buffer_refusal(k, bins, order)
 }
 
-// 4, 2, 3, 7, or 0 where the direct search can be made.
-fn direct_refusal(sampler: Sampler, words: usize, k: usize, bins: usize, order: usize) -> u32
+// 4, 18, 2, 3, 7, or 0 where the direct search can be made.
+fn direct_refusal(
+    sampler: Sampler,
+    words: usize,
+    first: usize,
+    end: usize,
+    k: usize,
+    bins: usize,
+    order: usize,
+) -> u32
     requires { ⌜ 8 * words < 9223372036854775808 ⌝ }
-    ensures { λ r. ⌜ r ≡ directRefusal sampler words k bins order ⌝ }
+    ensures { λ r. ⌜ r ≡ directRefusal sampler words first end k bins order ⌝ }
 {
-    let refusal = search_refusal(sampler, words, k);
+    let refusal = search_refusal(sampler, words, first, end, k);
     if refusal != 0 {
         return refusal;
     }
     buffer_refusal(k, bins, order)
 }
 
-// 4, 2, 3, or 0 where the sampler has these words and the width fits its block.
-fn search_refusal(sampler: Sampler, words: usize, k: usize) -> u32
+// 4, 18, 2, 3, or 0 where the sampler has these words and the blocks of the stretch, and the width fits its block.
+fn search_refusal(sampler: Sampler, words: usize, first: usize, end: usize, k: usize) -> u32
     requires { ⌜ 8 * words < 9223372036854775808 ⌝ }
-    ensures { λ r. ⌜ r ≡ searchRefusal sampler words k ⌝ }
+    ensures { λ r. ⌜ r ≡ searchRefusal sampler words first end k ⌝ }
 {
     let refusal = sampler_refusal(sampler, words);
     if refusal != 0 {
         return refusal;
+    }
+    let outside = stretch_refusal(sampler, first, end);
+    if outside != 0 {
+        return outside;
     }
     width_refusal(sampler.block_size, k)
 }

@@ -2,10 +2,11 @@
 ghost use mathlib.Core.Path.{_≡_};
 ghost use mathlib.Core.Bool.{true};
 ghost use lib.ListN.{length, take};
-ghost use Rattle.counting.specs.Words.{storedBit};
+ghost use Rattle.counting.specs.Stretch.{span, stretchBit};
 ghost use Rattle.subsets.specs.Stepping.{Stepped};
 ghost use Rattle.subsets.specs.Subsets.{Subset};
 ghost use Rattle.searching.specs.Pass.{Searchable, LayerBelow, Space, Ready};
+use counting::stretch::Stretch;
 use layers::run::advance;
 use layers::run::begin_run;
 use subsets::stepping::successor;
@@ -15,21 +16,19 @@ use subsets::stepping::successor;
 pub fn begin(
     bits: &[u32],
     words: &[u64],
-    stride: usize,
-    n: usize,
-    block_size: usize,
+    stretch: Stretch,
     layer: &[u32],
     counts: &mut [u32],
     ranks: &mut [usize],
 )
-    requires { ⌜ Searchable (length (now words)) stride n «block_size» (length (now bits)) ⌝ }
-    requires { ⌜ Subset «block_size» (length (now bits)) (now bits) ⌝ }
-    requires { ⌜ LayerBelow (storedBit stride (now words)) n «block_size» (length (now bits)) (now layer) ⌝ }
-    requires { ⌜ Space «block_size» (length (now bits)) (now layer) (now counts) (now ranks) ⌝ }
-    ensures { λ _. ⌜ Ready (storedBit stride (now (words .entry))) n «block_size» (now (layer .entry)) (now (bits .entry)) (now (counts .exit)) (now (ranks .exit)) ⌝ }
+    requires { ⌜ Searchable (length (now words)) stretch (length (now bits)) ⌝ }
+    requires { ⌜ Subset (stretch .«block_size») (length (now bits)) (now bits) ⌝ }
+    requires { ⌜ LayerBelow (stretchBit stretch (now words)) (span stretch) (stretch .«block_size») (length (now bits)) (now layer) ⌝ }
+    requires { ⌜ Space (stretch .«block_size») (length (now bits)) (now layer) (now counts) (now ranks) ⌝ }
+    ensures { λ _. ⌜ Ready (stretchBit stretch (now (words .entry))) (span stretch) (stretch .«block_size») (now (layer .entry)) (now (bits .entry)) (now (counts .exit)) (now (ranks .exit)) ⌝ }
 {
     if layer.len() > 0 {
-        begin_run(bits, words, stride, n, block_size, counts, ranks);
+        begin_run(bits, words, stretch, counts, ranks);
     }
 }
 
@@ -39,22 +38,20 @@ pub fn step(
     bits: &mut [u32],
     k: usize,
     words: &[u64],
-    stride: usize,
-    n: usize,
-    block_size: usize,
+    stretch: Stretch,
     layer: &[u32],
     counts: &mut [u32],
     ranks: &mut [usize],
 ) -> bool
-    requires { ⌜ Searchable (length (now words)) stride n «block_size» k ⌝ }
-    requires { ⌜ Subset «block_size» k (take k (now bits)) ⌝ }
-    requires { ⌜ LayerBelow (storedBit stride (now words)) n «block_size» k (now layer) ⌝ }
-    requires { ⌜ Ready (storedBit stride (now words)) n «block_size» (now layer) (take k (now bits)) (now counts) (now ranks) ⌝ }
-    ensures { λ r. ⌜ Stepped «block_size» k (now (bits .entry)) r (now (bits .exit)) ⌝ }
-    ensures { λ r. ⌜ (r ≡ true → Ready (storedBit stride (now (words .entry))) n «block_size» (now (layer .entry)) (take k (now (bits .exit))) (now (counts .exit)) (now (ranks .exit))) ⌝ }
+    requires { ⌜ Searchable (length (now words)) stretch k ⌝ }
+    requires { ⌜ Subset (stretch .«block_size») k (take k (now bits)) ⌝ }
+    requires { ⌜ LayerBelow (stretchBit stretch (now words)) (span stretch) (stretch .«block_size») k (now layer) ⌝ }
+    requires { ⌜ Ready (stretchBit stretch (now words)) (span stretch) (stretch .«block_size») (now layer) (take k (now bits)) (now counts) (now ranks) ⌝ }
+    ensures { λ r. ⌜ Stepped (stretch .«block_size») k (now (bits .entry)) r (now (bits .exit)) ⌝ }
+    ensures { λ r. ⌜ (r ≡ true → Ready (stretchBit stretch (now (words .entry))) (span stretch) (stretch .«block_size») (now (layer .entry)) (take k (now (bits .exit))) (now (counts .exit)) (now (ranks .exit))) ⌝ }
 {
     if layer.len() == 0 {
-        return successor(bits, k, block_size);
+        return successor(bits, k, stretch.block_size);
     }
-    advance(bits, k, words, stride, n, block_size, counts, ranks)
+    advance(bits, k, words, stretch, counts, ranks)
 }

@@ -13,10 +13,10 @@ fn main() {
 }
 
 // For the whole of standard input.
-fn room() -> [u8; 327680]
-    ensures { λ r. ⌜ 327680 ≡ length r ⌝ }
+fn room() -> [u8; 393216]
+    ensures { λ r. ⌜ 393216 ≡ length r ⌝ }
 {
-    [0; 327680]
+    [0; 393216]
 }
 
 // All cases of a text: the ranks of subsets, the rankings of counts, the searches.

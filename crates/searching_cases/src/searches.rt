@@ -1,6 +1,6 @@
-// Cases of searches: B and the number of lent words; the number of pieces, for each its length and its bytes; the number of searches, for each k, the
-// lengths of the bin buffer, the order buffer and the two stores, the number of entries of a store that the layered search may use, and 0 for the sampler
-// last returned, or 1 and another sampler's three fields.
+// Cases of searches: B and the number of lent words; the number of pieces, for each its length and its bytes; the number of searches, for each the first
+// block and the end of the stretch, k, the lengths of the bin buffer, the order buffer and the two stores, the number of entries of a store that the layered
+// search may use, and 0 for the sampler last returned, or 1 and another sampler's three fields.
 // Answer: a line for start and the feeds; for each search, first direct, then layered, a line with what it answers, one with the first 2 ^ k counts, one with
 // the first 2 ^ k entries of the order, and one with how many other entries of the buffers, and of the stores, are no longer as lent. Where it is refused,
 // all entries are such others.
@@ -24,11 +24,13 @@ use searching::search::brute_force_threads;
 // What the searches are given, and the place reached in the text.
 struct Search {
     sampler: Sampler,
+    first: usize,
+    end: usize,
     k: usize,
     bins: u64,
     order: u64,
-    first: u64,
-    second: u64,
+    lower: u64,
+    upper: u64,
     free: usize,
     at: usize,
 }
@@ -83,21 +85,25 @@ fn search_one(text: &[u8], at: usize, sampler: Sampler, words: &[u64]) -> usize 
 }
 
 fn read_search(text: &[u8], at: usize, returned: Sampler) -> Search {
-    let width = number(text, at);
+    let first = number(text, at);
+    let end = number(text, first.at);
+    let width = number(text, end.at);
     let bins = number(text, width.at);
     let order = number(text, bins.at);
-    let first = number(text, order.at);
-    let second = number(text, first.at);
-    let free = number(text, second.at);
+    let lower = number(text, order.at);
+    let upper = number(text, lower.at);
+    let free = number(text, upper.at);
     let given = given_sampler(text, free.at, returned);
     let sampler = given.sampler;
     Search {
         sampler,
+        first: first.value as usize,
+        end: end.value as usize,
         k: width.value as usize,
         bins: bins.value,
         order: order.value,
-        first: first.value,
-        second: second.value,
+        lower: lower.value,
+        upper: upper.value,
         free: free.value as usize,
         at: given.at,
     }
@@ -133,7 +139,15 @@ fn direct(search: Search, words: &[u64]) {
 }
 
 fn direct_with(search: Search, words: &[u64], bins: &mut [u32], order: &mut [u32]) {
-    let searched = brute_force_threads(search.sampler, words, search.k, bins, order);
+    let searched = brute_force_threads(
+        search.sampler,
+        words,
+        search.first,
+        search.end,
+        search.k,
+        bins,
+        order,
+    );
     print_answer(searched, search.k, bins, order);
     end_line();
 }
@@ -141,17 +155,17 @@ fn direct_with(search: Search, words: &[u64], bins: &mut [u32], order: &mut [u32
 fn layered(search: Search, words: &[u64]) {
     let mut bins = buffer();
     let mut order = buffer();
-    let mut first = store();
-    let mut second = store();
+    let mut lower = store();
+    let mut upper = store();
     let a = at_most(search.bins, 1024);
     let b = at_most(search.order, 1024);
-    let c = at_most(search.first, 335872);
-    let d = at_most(search.second, 335872);
+    let c = at_most(search.lower, 335872);
+    let d = at_most(search.upper, 335872);
     layered_with(
         search,
         words,
-        &mut first[..c],
-        &mut second[..d],
+        &mut lower[..c],
+        &mut upper[..d],
         &mut bins[..a],
         &mut order[..b],
     );
@@ -160,15 +174,25 @@ fn layered(search: Search, words: &[u64]) {
 fn layered_with(
     search: Search,
     words: &[u64],
-    first: &mut [u32],
-    second: &mut [u32],
+    lower: &mut [u32],
+    upper: &mut [u32],
     bins: &mut [u32],
     order: &mut [u32],
 ) {
-    let searched = brute_force(search.sampler, words, search.k, first, second, bins, order);
+    let searched = brute_force(
+        search.sampler,
+        words,
+        search.first,
+        search.end,
+        search.k,
+        lower,
+        upper,
+        bins,
+        order,
+    );
     print_answer(searched, search.k, bins, order);
-    print(changed(first, search.free) as u64);
-    print(changed(second, search.free) as u64);
+    print(changed(lower, search.free) as u64);
+    print(changed(upper, search.free) as u64);
     end_line();
 }
 

@@ -3,7 +3,7 @@ use mathlib.Core.Path.{_≡_, sym, ap, subst, _∙_}
 use mathlib.Core.Bool.{Bool, true, false, not}
 use mathlib.Core.List.{List, [], _∷_}
 use mathlib.Core.Logic.{_⊎_, inl, inr}
-use Prim.Native.Nat.{ℕ, zero, suc, _+_, _*_, _/_, _^_, _≤_}
+use Prim.Native.Nat.{ℕ, zero, suc, _+_, _*_, _/_, _^_, _≤_, zero-le}
 use native.Mathlib.Omega.{arith}
 use lib.Dec.{T}
 use lib.Ieee.{Float, lt}
@@ -12,21 +12,19 @@ use borrow.Author.Tests.{le-leb}
 use Rattle.counting.specs.Block.{validSize}
 use Rattle.counting.specs.Recording.{capacityBytes, recording, heldFrom, heldAfter, blocksIn, recordedBit}
 use Rattle.counting.specs.Sample.{countsOf}
-use Rattle.counting.specs.Sampling.{startedOf}
+use Rattle.counting.specs.Sampling.{startedOf, blocksOf}
 use Rattle.counting.proofs.Accepted.{valid-facts}
 use Rattle.ranking.specs.Order.{orderOf}
 use Rattle.ranking.specs.Ranking.{scoreOf}
 use Rattle.ranking.specs.declared.ranking.Ranking.{Ranking}
 use Rattle.subsets.specs.Best.{Beats, Optimal}
 use Rattle.subsets.specs.Subsets.{Subset, padded}
-use Rattle.searching.specs.Claim.{Session, Best}
+use Rattle.searching.specs.Claim.{BestOf}
 use Rattle.searching.specs.Finding.{winnerOf, zOf}
-use Rattle.searching.specs.Search.{DirectSearch}
 use Rattle.searching.specs.declared.finding.Finding.{Finding}
-use Rattle.searching.specs.declared.finding.Searched.{Searched}
 use Rattle.searching.proofs.Claiming.{claims}
+use Rattle.searching.proofs.Stretches.{whole-recordings}
 use Rattle.searching.proofs.Walking.{scores, z-number, by-z}
-use Rattle.counting.specs.declared.sampling.Sampler.{Sampler}
 use Rattle.sheet.specs.Training.{chosenOf, trainedOf, trainedOrder, Trained, TrainingFits, TrainingFound}
 
 -- ---- the bytes fit the words
@@ -66,7 +64,7 @@ not-T : (b : Bool) → (T b → ⊥) → T (not b)
 not-T true h = absurd (h tt)
 not-T false h = tt
 
-module _ (B : ℕ) (held : List ℕ) (k : ℕ) (f : Finding) (bins order : List ℕ) (best : Best B held k f bins order) where
+module _ (B : ℕ) (held : List ℕ) (k : ℕ) (f : Finding) (bins order : List ℕ) (best : BestOf B held k f bins order) where
   abbrev n : ℕ
   n = blocksIn B held
 
@@ -117,19 +115,20 @@ module _ (B : ℕ) (held : List ℕ) (k : ℕ) (f : Finding) (bins order : List 
         ordered = best .ordered ∙ ap orderOf (best .counted ∙ ap (countsOf bit n) chosen-is);
       }
 
--- ---- a session of one feed, and a search after it
+-- ---- an acquisition of one feed, and a search after it
 
 pub started-free : (B words : ℕ) → validSize B ≡ true → startedOf B words .refusal ≡ 0
 unfolding startedOf
 started-free B words ok = rw ok
 
 pub training-found : TrainingFound
-training-found B k ws bytes answers sampler ws′ session size bins order t r bins′ order′ search =
-    let claim = claims B ws (bytes ∷ []) answers sampler ws′ session .direct k bins order r bins′ order′ search in
+training-found B k ws bytes answers sampler ws′ acquired size bins order t r bins′ order′ search =
+    let claim = claims B ws (bytes ∷ []) answers sampler ws′ acquired .direct 0 (blocksOf sampler) k bins order r bins′ order′ search in
+    let whole = whole-recordings B ws (bytes ∷ []) answers sampler ws′ acquired in
     let v = valid-facts B (t .valid) in
     let high : k ≤ 20 = omega arith in
     let chosen : k ≤ B = omega arith in
-    let free : r .refusal ≡ 0 = claim .succeeds (t .some) high chosen (t .room .0) (t .room .1) in
+    let free : r .refusal ≡ 0 = claim .succeeds zero-le (omega (arith, whole .blocks)) (t .some, high, chosen, t .room .0, t .room .1) in
     let held : recording B (length ws) (bytes ∷ []) ≡ bytes =
     ap (λ (m : ℕ). recording B m (bytes ∷ [])) size ∙ training-fits B bytes (t .valid) (t .block) (t .few) in
-    (free, trained B bytes k (r .finding) bins′ order′ (subst (λ (h : List ℕ). Best B h k (r .finding) bins′ order′) held (claim .best free)))
+    (free, trained B bytes k (r .finding) bins′ order′ (subst (λ (h : List ℕ). BestOf B h k (r .finding) bins′ order′) held (whole .best k (r .finding) bins′ order′ (claim .best free))))

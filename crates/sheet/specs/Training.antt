@@ -7,9 +7,10 @@ use lib.ListN.{length, take}
 use Rattle.counting.specs.Block.{validSize}
 use Rattle.counting.specs.Recording.{recording, blocksIn, recordedBit}
 use Rattle.counting.specs.Sample.{countsOf}
+use Rattle.counting.specs.Sampling.{blocksOf}
 use Rattle.counting.specs.declared.sampling.Sampler.{Sampler}
 use Rattle.ranking.specs.Order.{orderOf}
-use Rattle.searching.specs.Claim.{Session}
+use Rattle.searching.specs.Claim.{Acquisition}
 use Rattle.searching.specs.Finding.{winnerOf, findingOf}
 use Rattle.searching.specs.Search.{DirectSearch}
 use Rattle.searching.specs.declared.finding.Finding.{Finding}
@@ -45,9 +46,9 @@ pub record Trained (B k : ℕ) (bytes : List ℕ) (f : Finding) (order : List �
 abbrev pub TrainingFits : Type 0
 TrainingFits = (B : ℕ) (bytes : List ℕ) → validSize B ≡ true → B ≤ 64 → length bytes ≤ 4096 → recording B 576 (bytes ∷ []) ≡ bytes
 
--- Theorem: after a start in these words and a feed of the bytes, the direct search is not refused, and what it finds is that.
+-- Theorem: after a start in these words and a feed of the bytes, the direct search of all blocks is not refused, and what it finds is that.
 abbrev pub TrainingFound : Type 0
 TrainingFound =
-    (B k : ℕ) (ws bytes answers : List ℕ) (sampler : Sampler) (ws′ : List ℕ) → Session B ws (bytes ∷ []) answers sampler ws′
+    (B k : ℕ) (ws bytes answers : List ℕ) (sampler : Sampler) (ws′ : List ℕ) → Acquisition B ws (bytes ∷ []) answers sampler ws′
     → length ws ≡ 576 → (bins order : List ℕ) → Trainable B k bytes (length bins) (length order)
-    → (r : Searched) (bins′ order′ : List ℕ) → DirectSearch sampler ws′ k bins order r bins′ order′ → (r .refusal ≡ 0) × Trained B k bytes (r .finding) order′
+    → (r : Searched) (bins′ order′ : List ℕ) → DirectSearch sampler ws′ 0 (blocksOf sampler) k bins order r bins′ order′ → (r .refusal ≡ 0) × Trained B k bytes (r .finding) order′

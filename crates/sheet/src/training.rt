@@ -2,6 +2,7 @@
 ghost use mathlib.Core.Path.{_≡_};
 ghost use lib.ListN.{length};
 ghost use Rattle.sheet.specs.Training.{Trainable, Trained};
+use counting::sampling::blocks;
 use counting::sampling::feed;
 use counting::sampling::start;
 use searching::finding::Finding;
@@ -22,7 +23,8 @@ pub fn train(
     let mut words = room();
     let started = start(block_size, &mut words);
     let fed = feed(started.sampler, &mut words, training);
-    let searched = brute_force_threads(fed.sampler, &words, k, bins, order);
+    let n = blocks(fed.sampler);
+    let searched = brute_force_threads(fed.sampler, &words, 0, n, k, bins, order);
     searched.finding
 }
 

@@ -8,12 +8,12 @@ use Rattle.exports.proofs.jimrawel_brute_force.Tie as tie
 returns : tie.Need-returns
 returns c =
     let a = c .before .before .before .before .before .before .before .before .args in
-    layered-short (a .sampler .now) (a .words .now) (a .k) (a .first .now) (a .second .now) (a .bins .now) (a .order .now) (a .finding .now) (inl (c .if1 .taken))
+    layered-short (a .sampler .now) (a .words .now) (a .first) (a .end) (a .k) (a .lower .now) (a .upper .now) (a .bins .now) (a .order .now) (a .finding .now) (inl (c .if1 .taken))
 
 returns-2 : tie.Need-returns-2
 returns-2 c =
     let a = c .before .before .before .before .before .before .before .before .before .args in
-    layered-short (a .sampler .now) (a .words .now) (a .k) (a .first .now) (a .second .now) (a .bins .now) (a .order .now) (a .finding .now) (inr (c .if2 .taken))
+    layered-short (a .sampler .now) (a .words .now) (a .first) (a .end) (a .k) (a .lower .now) (a .upper .now) (a .bins .now) (a .order .now) (a .finding .now) (inr (c .if2 .taken))
 
 read-sampler-requires : tie.Need-read-sampler-requires
 read-sampler-requires c κs = search needs
@@ -46,7 +46,7 @@ returns-3 c =
     let r = f .before .before .before .before .before in
     let e = r .before in
     let a = e .before .before .before .before .before .before .before .before .before .args in
-    layered-made (a .sampler .now) (a .words .now) (a .k) (a .first .now) (a .second .now) (a .bins .now) (a .order .now) (a .finding .now)
+    layered-made (a .sampler .now) (a .words .now) (a .first) (a .end) (a .k) (a .lower .now) (a .upper .now) (a .bins .now) (a .order .now) (a .finding .now)
     (r .read-sampler .result) (f .brute-force .result) _ _ _ _ (w .write-finding .last .1 .0)
     (e .before .if1 .left) (e .if2 .left) (r .read-sampler .ensures) (f .brute-force .ensures) (w .write-finding .ensures)
 

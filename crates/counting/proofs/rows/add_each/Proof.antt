@@ -5,9 +5,10 @@ use mathlib.Core.List.{[], _∷_}
 use native.Mathlib.Nat.{le-refl, mul-le-mul-right, add-mul}
 use lib.Dec.{lit<}
 use lib.ListN.{length, getD, length-set, length-take, length-drop}
+use Rattle.counting.specs.Sample.{onward}
 use Rattle.counting.specs.Tally.{laneOf, wordAt, wordWith}
 use Rattle.counting.specs.Words.{storedBit}
-use Rattle.counting.specs.Rows.{onward, markedIn}
+use Rattle.counting.specs.Rows.{markedIn}
 use Rattle.counting.proofs.Marks.{partAt, with-row, marked-one, Stored, stored-none, stored-more}
 use native.Mathlib.Omega.{arith}
 use borrow.Author.Needs.{needs}
@@ -15,12 +16,12 @@ use Rattle.counting.proofs.rows.add_each.Statement.{statement}
 use Rattle.counting.proofs.rows.add_each.Tie as tie
 
 abbrev Inv-loop : tie.InvT-loop
-Inv-loop acc next words stride start n counts₀ m j₀ counts j =
+Inv-loop acc next words counts₀ stride start n m j₀ counts j =
     (j ≤ length counts₀) × (length counts ≡ length counts₀)
     × Stored (λ u. getD counts₀ u 0 + markedIn (laneOf (wordAt acc)) (onward (64 * start) (storedBit stride words)) ((next + u) ∷ []) n 1) counts₀ j counts
 
 abbrev μ-loop : tie.MeasureT-loop
-μ-loop acc next words stride start n counts₀ m j₀ counts j = length counts₀ - j
+μ-loop acc next words counts₀ stride start n m j₀ counts j = length counts₀ - j
 
 add-m : tie.Need-add-m Inv-loop μ-loop
 add-m c = search needs
@@ -30,12 +31,12 @@ start d = d .before .before .before .before .before
 
 -- the row of the bit that a turn looks at
 row : (d : tie.In-loop Inv-loop μ-loop)
-    → (start d .args .next + d .before .loop .j) * start d .args .stride + start d .args .stride ≤ length (start d .args .words .now)
+    → (start d .args .next + d .before .loop .j) * start d .args .chunk .stride + start d .args .chunk .stride ≤ length (start d .args .words .now)
 row d =
     let a = start d .args in
     let j = d .before .loop .j in
     let next : a .next + j + 1 ≤ a .next + length (a .counts .now) = omega arith in
-    omega (arith, add-mul (a .next + j) 1 (a .stride), mul-le-mul-right (a .stride) next, start d .pre .1 .0)
+    omega (arith, add-mul (a .next + j) 1 (a .chunk .stride), mul-le-mul-right (a .chunk .stride) next, start d .pre .1 .0)
 
 loop-holds : tie.Need-loop-holds Inv-loop μ-loop
 loop-holds c = (search needs, search needs, stored-none _ (c .before .before .before .args .counts .now))
@@ -68,8 +69,8 @@ count-with-requires : tie.Need-count-with-requires Inv-loop μ-loop
 count-with-requires c κs =
     let d = c .before in
     let a = start d .args in
-    let base = (a .next + d .before .loop .j) * a .stride + a .start in
-    let long : length (partAt (a .words .now) base ((a .n + 63) / 64)) ≡ (a .n + 63) / 64 = simp (length-take, length-drop) (omega (arith, row d)) in
+    let base = (a .next + d .before .loop .j) * a .chunk .stride + a .chunk .start in
+    let long : length (partAt (a .words .now) base ((a .chunk .lanes + 63) / 64)) ≡ (a .chunk .lanes + 63) / 64 = simp (length-take, length-drop) (omega (arith, row d)) in
     omega arith
 
 mul-counts : tie.Need-mul-counts Inv-loop μ-loop
@@ -103,20 +104,20 @@ loop-again c =
     let at = d .before .loop in
     let a = start d .args in
     let b = a .next + at .j in
-    let base = b * a .stride + a .start in
-    let m = (a .n + 63) / 64 in
-    let bit = onward (64 * a .start) (storedBit (a .stride) (a .words .now)) in
+    let base = b * a .chunk .stride + a .chunk .start in
+    let m = (a .chunk .lanes + 63) / 64 in
+    let bit = onward (64 * a .chunk .start) (storedBit (a .chunk .stride) (a .words .now)) in
     let lane = laneOf (wordAt (a .acc .now)) in
     let lane′ = laneOf (wordWith (wordAt (a .acc .now)) (partAt (a .words .now) base m) 0) in (
       omega arith,
       simp length-set (at .inv .1),
-      stored-more (λ u. getD (a .counts .now) u 0 + markedIn lane bit ((a .next + u) ∷ []) (a .n) 1) (a .counts .now) (at .j) (at .counts) _ (omega arith)
+      stored-more (λ u. getD (a .counts .now) u 0 + markedIn lane bit ((a .next + u) ∷ []) (a .chunk .lanes) 1) (a .counts .now) (at .j) (at .counts) _ (omega arith)
           (omega (
             arith,
             at .inv .2 .1 (at .j) (le-refl (at .j)),
             c .before .count-with .ensures .0,
-            marked-one lane lane′ bit b (a .n) 1
-                (λ e h. with-row (a .words .now) (a .stride) (a .start) b base m refl (wordAt (a .acc .now)) 0 1 e (omega arith) (lit< tt) refl),
+            marked-one lane lane′ bit b (a .chunk .lanes) 1
+                (λ e h. with-row (a .words .now) (a .chunk .stride) (a .chunk .start) b base m refl (wordAt (a .acc .now)) 0 1 e (omega arith) (lit< tt) refl),
           ))
           (at .inv .2),
     )

@@ -5,10 +5,11 @@ use native.Mathlib.Decide.{decLt}
 use lib.Bits.{bitAnd}
 use lib.ListN.{length, getD, take, length-take, length-drop}
 use lib.Seq.{take-all}
-use Rattle.counting.specs.Tally.{wordAt}
+use Rattle.counting.specs.Sample.{onward}
+use Rattle.counting.specs.Tally.{laneOf, wordAt}
 use Rattle.counting.specs.Words.{storedBit}
-use Rattle.counting.specs.Rows.{onward, Marks, Paired}
-use Rattle.counting.proofs.Marks.{partAt, stored-lt, and-lane, marks-two}
+use Rattle.counting.specs.Rows.{Marks, Paired}
+use Rattle.counting.proofs.Marks.{partAt, stored-lt, and-lane, marks-none, marks-two}
 use native.Mathlib.Omega.{arith}
 use borrow.Author.Needs.{needs}
 use Rattle.counting.proofs.rows.and_rows.Statement.{statement}
@@ -16,7 +17,7 @@ use Rattle.counting.proofs.rows.and_rows.Tie as tie
 
 abbrev Inv-loop : tie.InvT-loop
 Inv-loop acc₀ bits words stride start n m i₀ acc i =
-    (i ≤ length bits + 1) × (length acc ≡ length acc₀) × Marks acc (onward (64 * start) (storedBit stride words)) (take i bits) n
+    (i ≤ length bits + 1) × (length acc ≡ length acc₀) × Marks (laneOf (wordAt acc₀)) acc (onward (64 * start) (storedBit stride words)) (take i bits) n
 
 abbrev μ-loop : tie.MeasureT-loop
 μ-loop acc₀ bits words stride start n m i₀ acc i = length bits + 1 - i
@@ -46,16 +47,18 @@ second d = inside (one d) (length (start d .args .bits .now)) (two d) (d .before
 
 -- and the row of either
 row : (d : tie.After-with-next Inv-loop μ-loop) (i : ℕ) → i < length (start d .args .bits .now)
-    → getD (start d .args .bits .now) i 0 * start d .args .stride + start d .args .stride ≤ length (start d .args .words .now)
+    → getD (start d .args .bits .now) i 0 * start d .args .chunk .stride + start d .args .chunk .stride ≤ length (start d .args .words .now)
 row d i h = start d .pre .0 i h
 
 rows : (d : tie.After-with-next Inv-loop μ-loop)
-    → (getD (start d .args .bits .now) (one d) 0 * start d .args .stride + start d .args .stride ≤ length (start d .args .words .now))
-    × (getD (start d .args .bits .now) (two d) 0 * start d .args .stride + start d .args .stride ≤ length (start d .args .words .now))
+    → (getD (start d .args .bits .now) (one d) 0 * start d .args .chunk .stride + start d .args .chunk .stride ≤ length (start d .args .words .now))
+    × (getD (start d .args .bits .now) (two d) 0 * start d .args .chunk .stride + start d .args .chunk .stride ≤ length (start d .args .words .now))
 rows d = (row d (one d) (d .before .loop-test .taken), row d (two d) (second d))
 
 loop-holds : tie.Need-loop-holds Inv-loop μ-loop
-loop-holds c = (search needs, search needs, c .before .before .before .pre .1 .1)
+loop-holds c =
+    let a = c .before .before .before .args in
+    (search needs, search needs, marks-none (a .acc .now) (onward (64 * a .chunk .start) (storedBit (a .chunk .stride) (a .words .now))) (a .chunk .lanes))
 
 with-next-requires : tie.Need-with-next-requires Inv-loop μ-loop
 with-next-requires c κs = search needs
@@ -122,9 +125,9 @@ part-and-two-end-2 c = omega (arith, rows (c .before .before .before .before))
 
 -- as far as the chunk goes
 part-size : (d : tie.After-with-next Inv-loop μ-loop) (i : ℕ) → i < length (start d .args .bits .now)
-    → length (partAt (start d .args .words .now) (getD (start d .args .bits .now) i 0 * start d .args .stride + start d .args .start) ((start d .args .n + 63) / 64))
-    ≡ (start d .args .n + 63) / 64
-part-size d i h = simp (length-take, length-drop) (omega (arith, row d i h, start d .pre .1 .0))
+    → length (partAt (start d .args .words .now) (getD (start d .args .bits .now) i 0 * start d .args .chunk .stride + start d .args .chunk .start) ((start d .args .chunk .lanes + 63) / 64))
+    ≡ (start d .args .chunk .lanes + 63) / 64
+part-size d i h = simp (length-take, length-drop) (omega (arith, row d i h, start d .pre .1))
 
 and-two-requires : tie.Need-and-two-requires Inv-loop μ-loop
 and-two-requires c κs =
@@ -146,22 +149,22 @@ loop-again c =
     let at = d .before .before .loop in
     let a = start d .args in
     let acc′ = anded .and-two .last .0 in
-    let m = (a .n + 63) / 64 in
+    let m = (a .chunk .lanes + 63) / 64 in
     let b = getD (a .bits .now) (one d) 0 in
     let b′ = getD (a .bits .now) (two d) 0 in
-    let base = b * a .stride + a .start in
-    let base′ = b′ * a .stride + a .start in
+    let base = b * a .chunk .stride + a .chunk .start in
+    let base′ = b′ * a .chunk .stride + a .chunk .start in
     let half : ℕ → ℕ = λ (t : ℕ). bitAnd (getD (at .acc) t 0) (getD (partAt (a .words .now) base m) t 0) in
     let long = part-size d (one d) (d .before .loop-test .taken) in (
       omega (arith, d .before .loop-test .taken),
       anded .and-two .kept .0 ∙ at .inv .1,
-      marks-two (at .acc) acc′ (onward (64 * a .start) (storedBit (a .stride) (a .words .now))) (λ e. stored-lt (a .stride) (a .words .now) (64 * a .start + e)) (a .bits .now) (a .n)
+      marks-two (laneOf (wordAt (a .acc .now))) (at .acc) acc′ (onward (64 * a .chunk .start) (storedBit (a .chunk .stride) (a .words .now))) (λ e. stored-lt (a .chunk .stride) (a .words .now) (64 * a .chunk .start + e)) (a .bits .now) (a .chunk .lanes)
           (one d) (two d) (d .before .loop-test .taken) (d .with-next .ensures)
           (λ e h.
           omega (
             arith,
-            and-lane (a .words .now) (a .stride) (a .start) b base m refl (wordAt (at .acc)) half e (omega arith) refl,
-            and-lane (a .words .now) (a .stride) (a .start) b′ base′ m refl half (wordAt acc′) e (omega arith) (anded .and-two .ensures (e / 64) (omega arith)),
+            and-lane (a .words .now) (a .chunk .stride) (a .chunk .start) b base m refl (wordAt (at .acc)) half e (omega arith) refl,
+            and-lane (a .words .now) (a .chunk .stride) (a .chunk .start) b′ base′ m refl half (wordAt acc′) e (omega arith) (anded .and-two .ensures (e / 64) (omega arith)),
           ))
           (at .inv .2),
     )

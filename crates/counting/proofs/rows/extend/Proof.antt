@@ -1,18 +1,20 @@
--- `rows::extend` meets its contract: the counts go on from block 64 × start.
-use Prim.Native.Nat.{ℕ, _+_, _*_}
-use mathlib.Core.Path.{ap, sym, _∙_}
-use mathlib.Core.List.{[], _∷_}
+-- `rows::extend` meets its contract: the blocks of the chunk are counted too.
+use Prim.Native.Nat.{ℕ, _+_, _-_, _*_, _^_}
+use mathlib.Core.Path.{ap, _∙_}
+use mathlib.Core.List.{[], _∷_, _++_}
+use lib.ListN.{length, getD}
+use Rattle.counting.specs.Sample.{onward}
 use Rattle.counting.specs.Tally.{laneOf, wordAt}
 use Rattle.counting.specs.Words.{storedBit}
-use Rattle.counting.specs.Rows.{onward, markedIn}
-use Rattle.counting.proofs.Marks.{stored-lt, marks-none, extended-more, extended-room}
+use Rattle.counting.proofs.Marks.{stored-lt, marked-all}
+use Rattle.counting.proofs.Stretches.{marked-from}
 use native.Mathlib.Omega.{arith}
 use borrow.Author.Needs.{needs}
 use Rattle.counting.proofs.rows.extend.Statement.{statement}
 use Rattle.counting.proofs.rows.extend.Tie as tie
 
-all-marked-requires : tie.Need-all-marked-requires
-all-marked-requires c κs = search needs
+marked-from-requires : tie.Need-marked-from-requires
+marked-from-requires c κs = search needs
 
 slice-aggregate-and-rows : tie.Need-slice-aggregate-and-rows
 slice-aggregate-and-rows c = search needs
@@ -20,11 +22,7 @@ slice-aggregate-and-rows c = search needs
 and-rows-requires : tie.Need-and-rows-requires
 and-rows-requires c κs =
     let s = c .before .before .before .before .before in
-    let a = s .args in
-    let all = c .before .all-marked in (
-      s .pre .0,
-      ((s .pre .1 .0, omega arith), marks-none (all .result) (onward (64 * a .start) (storedBit (a .stride) (a .words .now))) (a .n) (λ e h. all .ensures .1 e (omega arith))),
-    )
+    (s .pre .0, (s .pre .1 .0, omega (arith, c .before .marked-from .ensures .0)))
 
 slice-aggregate-add-each : tie.Need-slice-aggregate-add-each
 slice-aggregate-add-each c = search needs
@@ -32,8 +30,8 @@ slice-aggregate-add-each c = search needs
 add-each-requires : tie.Need-add-each-requires
 add-each-requires c κs =
     let s = c .before .before .before .before .before .before .before .before .before in
-    let a = s .args in
-    ((s .pre .1 .0, omega arith), (s .pre .1 .1 .0, extended-room (storedBit (a .stride) (a .words .now)) (64 * a .start) (a .n) (a .bits .now) (a .next) (a .counts .now) (omega arith) (s .pre .1 .1 .1)))
+    let marks = c .before .before .before .and-rows in
+    ((s .pre .1 .0, omega (arith, marks .kept .0, c .before .before .before .before .before .marked-from .ensures .0)), (s .pre .1 .1 .0, s .pre .1 .1 .1))
 
 same-length : tie.Need-same-length
 same-length c = search needs
@@ -43,18 +41,23 @@ returns c =
     let s = c .before .before .before .before .before .before .before .before .before .before .before .before in
     let a = s .args in
     let added = c .before .before .add-each in
-    let marks = c .before .before .before .before .before .before .and-rows in
-    let bit = storedBit (a .stride) (a .words .now) in
+    let left = c .before .before .before .before .before .before .and-rows in
+    let marks = c .before .before .before .before .before .before .before .before .marked-from in
+    let x = a .chunk in
+    let bit = storedBit (x .stride) (a .words .now) in
+    let base = 64 * x .start in
     λ j h.
-    added .ensures j (omega (arith, added .kept .1 .1 .1 .1 .1 .1 .0))
-    ∙ ap (λ (x : ℕ). x + markedIn (laneOf (wordAt (marks .last .0))) (onward (64 * a .start) bit) ((a .next + j) ∷ []) (a .n) 1) (s .pre .1 .1 .1 j (omega (arith, added .kept .1 .1 .1 .1 .1 .1 .0)))
-    ∙ sym (extended-more (marks .last .0) bit (stored-lt (a .stride) (a .words .now)) (64 * a .start) (a .n) (a .bits .now) (a .next + j) (marks .ensures))
+    let all = a .bits .now ++ ((a .next + j) ∷ []) in
+    added .ensures j (omega (arith, added .kept .1 .1 .1 .1 .0))
+    ∙ ap (λ (y : ℕ). getD (a .counts .now) j 0 + y)
+    (marked-all (laneOf (wordAt (marks .result))) (left .last .0) (onward base bit) (λ e. stored-lt (x .stride) (a .words .now) (base + e)) (a .bits .now) (a .next + j) (x .lanes) (left .ensures)
+    ∙ marked-from (laneOf (wordAt (marks .result))) bit base (x .skip) (x .lanes) all (2 ^ length all - 1) (omega (arith, s .pre .1 .0)) (λ e l. marks .ensures .1 e (omega (arith, s .pre .1 .0))))
 
 pub extend-spec : {M : Type 1} → statement M
 extend-spec =
     tie.close
     (tie.spec
-    all-marked-requires
+    marked-from-requires
     slice-aggregate-and-rows
     and-rows-requires
     slice-aggregate-add-each

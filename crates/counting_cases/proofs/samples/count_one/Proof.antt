@@ -8,6 +8,12 @@ use Rattle.counting_cases.proofs.samples.count_one.Tie as tie
 number-requires : tie.Need-number-requires
 number-requires c κs = search needs
 
+number-requires-2 : tie.Need-number-requires-2
+number-requires-2 c κs = search needs
+
+number-requires-3 : tie.Need-number-requires-3
+number-requires-3 c κs = search needs
+
 at-most-requires : tie.Need-at-most-requires
 at-most-requires c κs = search needs
 
@@ -28,6 +34,8 @@ count-one-spec =
     tie.close
     (tie.spec
     number-requires
+    number-requires-2
+    number-requires-3
     at-most-requires
     array-borrow-prefix-bits
     slice-aggregate-count-subset

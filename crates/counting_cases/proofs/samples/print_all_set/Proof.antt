@@ -6,7 +6,7 @@ use native.Mathlib.Nat.{add-mul}
 use lib.Dec.{lit<}
 use lib.ListN.{length, getD, take}
 use lib.Seq.{length-take-le}
-use Rattle.counting.specs.Words.{storedBit}
+use Rattle.counting.specs.Stretch.{span, stretchBit}
 use Rattle.counting.proofs.Counts.{count-le}
 use Rattle.counting.proofs.Halves.{rows-init}
 use native.Mathlib.Omega.{arith}
@@ -41,7 +41,7 @@ multi-eval-requires c κs =
     let last = length (a .bits .now) - 1 in
     let row = s .pre .1 .0 last (omega arith) in
     let short : length (take last (a .bits .now)) ≡ last = length-take-le last (a .bits .now) (omega arith) in
-    (omega arith, (rows-init (a .words .now) (a .stride) (a .bits .now) last (s .pre .1 .0), (s .pre .1 .1, (omega arith, omega (arith, row, add-mul (getD (a .bits .now) last 0) 1 (a .stride))))))
+    (omega arith, (rows-init (a .words .now) (a .stretch .stride) (a .bits .now) last (s .pre .1 .0), (s .pre .1 .1, (omega arith, omega (arith, row, add-mul (getD (a .bits .now) last 0) 1 (a .stretch .stride))))))
 
 array-read-print : tie.Need-array-read-print
 array-read-print c = search needs
@@ -51,7 +51,7 @@ cast-print c =
     let a = c .before .before .before .before .before .before .before .args in
     let last = length (a .bits .now) - 1 in
     let all = take last (a .bits .now) ++ ((getD (a .bits .now) last 0 + 0) ∷ []) in
-    omega (arith, c .before .multi-eval .ensures 0 (lit< tt), count-le (storedBit (a .stride) (a .words .now)) (a .n) all (2 ^ length all - 1))
+    omega (arith, c .before .multi-eval .ensures 0 (lit< tt), count-le (stretchBit (a .stretch) (a .words .now)) (span (a .stretch)) all (2 ^ length all - 1))
 
 print-requires : tie.Need-print-requires
 print-requires c κs = search needs

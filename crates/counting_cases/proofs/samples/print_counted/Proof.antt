@@ -7,10 +7,10 @@ use Rattle.counting_cases.proofs.samples.print_counted.Statement.{state
 use Rattle.counting_cases.proofs.samples.print_counted.Tie as tie
 
 abbrev Inv-loop : tie.InvT-loop
-Inv-loop bits words stride n bins v₀ v = v ≤ length bins
+Inv-loop bits words bins v₀ v = v ≤ length bins
 
 abbrev μ-loop : tie.MeasureT-loop
-μ-loop bits words stride n bins v₀ v = length bins - v
+μ-loop bits words bins v₀ v = length bins - v
 
 multi-eval-neg-requires : tie.Need-multi-eval-neg-requires Inv-loop μ-loop
 multi-eval-neg-requires c κs =
@@ -42,7 +42,7 @@ loop-again : tie.Need-loop-again Inv-loop μ-loop
 loop-again c = search needs
 
 same-length : tie.Need-same-length Inv-loop μ-loop
-same-length c = c .before .before .before .before .multi-eval-neg .kept .1 .1 .1 .1 .0
+same-length c = c .before .before .before .before .multi-eval-neg .kept .1 .1 .1 .0
 
 returns : tie.Need-returns Inv-loop μ-loop
 returns c = search needs

@@ -1,4 +1,4 @@
--- `samples::print_counts` is safe: past the tests the bits can be counted, and the rows hold them and the blocks.
+-- `samples::print_counts` is safe: past the tests the bits can be counted, and the rows hold them and the stretch.
 use borrow.Author.Tests.{not-false}
 use borrow.Author.Needs.{needs}
 use Rattle.counting_cases.proofs.samples.print_counts.Statement.{statement}
@@ -16,8 +16,8 @@ end-line-requires c κs = search needs
 returns : tie.Need-returns
 returns c = search needs
 
-blocks-in-requires : tie.Need-blocks-in-requires
-blocks-in-requires c κs = search needs
+within-requires : tie.Need-within-requires
+within-requires c κs = search needs
 
 print-requires-2 : tie.Need-print-requires-2
 print-requires-2 c κs = search needs
@@ -41,10 +41,10 @@ returns-3 : tie.Need-returns-3
 returns-3 c = search needs
 
 print-bins-requires : tie.Need-print-bins-requires
-print-bins-requires c κs = (c .before .countable .ensures (not-false _ (c .if3 .left)), (c .before .before .before .before .before .rows-in .ensures (not-false _ (c .before .before .before .before .if1 .left)), c .before .before .before .blocks-in .ensures (not-false _ (c .before .before .if2 .left))))
+print-bins-requires c κs = (c .before .countable .ensures (not-false _ (c .if3 .left)), (c .before .before .before .before .before .rows-in .ensures (not-false _ (c .before .before .before .before .if1 .left)), c .before .before .before .within .ensures (not-false _ (c .before .before .if2 .left))))
 
 print-all-set-requires : tie.Need-print-all-set-requires
-print-all-set-requires c κs = (c .before .before .countable .ensures (not-false _ (c .before .if3 .left)), (c .before .before .before .before .before .before .rows-in .ensures (not-false _ (c .before .before .before .before .before .if1 .left)), c .before .before .before .before .blocks-in .ensures (not-false _ (c .before .before .before .if2 .left))))
+print-all-set-requires c κs = (c .before .before .countable .ensures (not-false _ (c .before .if3 .left)), (c .before .before .before .before .before .before .rows-in .ensures (not-false _ (c .before .before .before .before .before .if1 .left)), c .before .before .before .before .within .ensures (not-false _ (c .before .before .before .if2 .left))))
 
 end-line-requires-4 : tie.Need-end-line-requires-4
 end-line-requires-4 c κs = search needs
@@ -60,7 +60,7 @@ print-counts-spec =
     print-requires
     end-line-requires
     returns
-    blocks-in-requires
+    within-requires
     print-requires-2
     end-line-requires-2
     returns-2

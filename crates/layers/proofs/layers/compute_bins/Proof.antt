@@ -1,14 +1,19 @@
--- `layers::compute_bins` meets its contract. The loop's invariant: the bins from v on are known.
+-- `layers::compute_bins` meets its contract. The loop's invariant: the bins from v on are known, of whatever stretch the layer and the run are.
 use Prim.Native.Nat.{ℕ, _+_, _-_, _*_, _/_, _%_, _^_, _≤_, _<_}
 use mathlib.Core.Path.{_≡_, ap, _∙_}
+use mathlib.Core.List.{List}
 use native.Mathlib.Omega.{arith}
 use lib.ListN.{length, getD, set, length-set}
 use lib.Pow.{pow-pos, pow-mono}
 use Rattle.counting.specs.Sample.{countIn}
-use Rattle.counting.specs.Words.{storedBit}
-use Rattle.counting.proofs.Marks.{shifted-one, stored-lt}
+use Rattle.counting.specs.Stretch.{span, stretchBit}
+use Rattle.counting.proofs.Marks.{shifted-one}
+use Rattle.counting.proofs.Stretches.{stretch-lt}
+use Rattle.counting.specs.declared.stretch.Stretch.{Stretch}
+use Rattle.subsets.specs.Subsets.{Subset}
 use Rattle.subsets.proofs.Listing.{bits-below}
-use Rattle.layers.specs.Run.{lastBit}
+use Rattle.layers.specs.Layers.{Holds}
+use Rattle.layers.specs.Run.{Run, lastBit}
 use Rattle.layers.proofs.Zeros.{Bin, bin-parts}
 use Rattle.layers.proofs.Running.{own-count}
 use Rattle.layers.proofs.Subtracting.{Entry, entry, last-bin, Known, known-last, known-more, known-start, known-from, difference, all-known}
@@ -16,12 +21,18 @@ use borrow.Author.Needs.{needs}
 use Rattle.layers.proofs.layers.compute_bins.Statement.{statement}
 use Rattle.layers.proofs.layers.compute_bins.Tie as tie
 
+-- the bits are a subset, and the store and the run are of this stretch
+record Given (x : Stretch) (bits words store counts ranks : List ℕ) : Type 0 where
+  subset : Subset (x .«block_size») (length bits) bits
+  layer : Holds (stretchBit x words) (span x) (x .«block_size») (length bits - 1) store
+  run : Run (stretchBit x words) (span x) (x .«block_size») bits counts ranks
+
 abbrev Inv-loop : tie.InvT-loop
-Inv-loop bits words stride n block-size store counts ranks bins₀ last half all v₀ bins v =
-    (v < 2 ^ length bits) × Known (storedBit stride words) n bits bins₀ v bins
+Inv-loop bits words store counts ranks bins₀ last half all v₀ bins v =
+    (v < 2 ^ length bits) × ((x : Stretch) → Given x bits words store counts ranks → Known (stretchBit x words) (span x) bits bins₀ v bins)
 
 abbrev μ-loop : tie.MeasureT-loop
-μ-loop bits words stride n block-size store counts ranks bins₀ last half all v₀ bins v = v
+μ-loop bits words store counts ranks bins₀ last half all v₀ bins v = v
 
 -- ---- the places: the entry, the last bin written, the loop's head
 
@@ -34,6 +45,13 @@ first d = start (d .before .before)
 abbrev head : tie.At-loop Inv-loop μ-loop → tie.Start Inv-loop μ-loop
 head l = first (l .before)
 
+-- the stretch at the entry
+abbrev Given-at : tie.Start Inv-loop μ-loop → Stretch → Type 0
+Given-at s x = let a = s .args in Given x (a .bits .now) (a .words .now) (a .store .now) (a .counts .now) (a .ranks .now)
+
+given : (s : tie.Start Inv-loop μ-loop) → Given-at s (s .args .stretch)
+given s = record { subset = s .pre .1 .0; layer = s .pre .1 .1 .0; run = s .pre .1 .1 .1 .1 .0 }
+
 -- half is the number of bins of a subset without one bit
 half-is : (s : tie.Start Inv-loop μ-loop) → let k = length (s .args .bits .now) in 1 * 2 ^ (k - 1) % 2 ^ 64 ≡ 2 ^ (k - 1)
 half-is s = shifted-one 64 (length (s .args .bits .now) - 1) (omega (arith, s .pre .0))
@@ -43,10 +61,10 @@ all-is : (s : tie.Start Inv-loop μ-loop) → let k = length (s .args .bits .now
 all-is s = last-bin (length (s .args .bits .now)) _ (s .pre .0 .0) (half-is s)
 
 -- the last bit is in the block
-inside : (s : tie.Start Inv-loop μ-loop) → lastBit (s .args .bits .now) < s .args .block-size
+inside : (s : tie.Start Inv-loop μ-loop) → lastBit (s .args .bits .now) < s .args .stretch .«block_size»
 inside s =
     let b = s .args .bits .now in
-    bits-below (s .args .block-size) (length b) b (s .pre .1 .0) (length b - 1) (omega (arith, s .pre .0))
+    bits-below (s .args .stretch .«block_size») (length b) b (s .pre .1 .0) (length b - 1) (omega (arith, s .pre .0))
 
 -- the count of the bin of all ones
 abbrev ones : tie.Start Inv-loop μ-loop → ℕ
@@ -58,15 +76,22 @@ room : (s : tie.Start Inv-loop μ-loop)
     2 ^ length (a .bits .now) ≤ length (set (a .bins .now) (2 * (1 * 2 ^ (length (a .bits .now) - 1) % 2 ^ 64) - 1) (ones s))
 room s = simp length-set (s .pre .1 .1 .1 .1 .1)
 
+-- the bins from v on, of the stretch at the entry
+known : (l : tie.At-loop Inv-loop μ-loop)
+    → let a = head l .args in
+    Known (stretchBit (a .stretch) (a .words .now)) (span (a .stretch)) (a .bits .now)
+    (set (a .bins .now) (2 * (1 * 2 ^ (length (a .bits .now) - 1) % 2 ^ 64) - 1) (ones (head l))) (l .loop .v) (l .loop .bins)
+known l = l .loop .inv .1 (head l .args .stretch) (given (head l))
+
 -- the last bin is known
-counted : (s : tie.Start Inv-loop μ-loop)
+counted : (s : tie.Start Inv-loop μ-loop) (x : Stretch) → Given-at s x
     → let a = s .args in
     let all = 2 * (1 * 2 ^ (length (a .bits .now) - 1) % 2 ^ 64) - 1 in
-    Known (storedBit (a .stride) (a .words .now)) (a .n) (a .bits .now) (a .bins .now) all (set (a .bins .now) all (ones s))
-counted s =
+    Known (stretchBit x (a .words .now)) (span x) (a .bits .now) (a .bins .now) all (set (a .bins .now) all (ones s))
+counted s x g =
     let a = s .args in
-    known-last (storedBit (a .stride) (a .words .now)) (a .n) (a .bits .now) (a .bins .now) (s .pre .1 .1 .1 .1 .1) _ (ones s) (all-is s)
-    (own-count (storedBit (a .stride) (a .words .now)) (a .n) (a .block-size) (a .bits .now) (a .counts .now) (a .ranks .now) (s .pre .0 .0) (s .pre .1 .0) (s .pre .1 .1 .1 .1 .0))
+    known-last (stretchBit x (a .words .now)) (span x) (a .bits .now) (a .bins .now) (s .pre .1 .1 .1 .1 .1) _ (ones s) (all-is s)
+    (own-count (stretchBit x (a .words .now)) (span x) (x .«block_size») (a .bits .now) (a .counts .now) (a .ranks .now) (s .pre .0 .0) (g .subset) (g .run))
 
 -- the bin of a turn, in parts
 bin : (d : tie.After-first-zero-bit Inv-loop μ-loop)
@@ -93,35 +118,43 @@ small : (l : tie.At-loop Inv-loop μ-loop) → 2 ^ length (head l .args .bits .n
 small l = pow-mono (head l .pre .0 .1)
 
 -- the entry of the layer below that a turn reads
-read : (d : tie.After-first-zero-bit Inv-loop μ-loop)
+read : (d : tie.After-first-zero-bit Inv-loop μ-loop) (x : Stretch) → Given-at (head (d .before .before)) x
     → let l = d .before .before in
     let a = head l .args in
     let r = d .first-zero-bit .result in
     let with = l .loop .v - 1 + 1 * 2 ^ r % 2 ^ 64 in
-    Entry (storedBit (a .stride) (a .words .now)) (a .n) (a .bits .now) (a .store .now)
+    Entry (stretchBit x (a .words .now)) (span x) (a .bits .now) (a .store .now)
     (getD (a .ranks .now) r 0 * (1 * 2 ^ (length (a .bits .now) - 1) % 2 ^ 64) + with / 2) (l .loop .v - 1) with
-read d =
+read d x g =
     let l = d .before .before in
     let s = head l in
     let a = s .args in
     let r = d .first-zero-bit .result in
-    entry (storedBit (a .stride) (a .words .now)) (stored-lt (a .stride) (a .words .now)) (a .n) (a .block-size) (a .bits .now) (a .store .now)
-    (s .pre .1 .0) (s .pre .1 .1 .0) (l .loop .v - 1) r _ _ _ (half-is s) (ap (λ (x : ℕ). l .loop .v - 1 + x) (bit-is d))
-    (s .pre .1 .1 .1 .1 .0 .ranked r (bin d .inside)) (bin d)
+    entry (stretchBit x (a .words .now)) (stretch-lt x (a .words .now)) (span x) (x .«block_size») (a .bits .now) (a .store .now)
+    (g .subset) (g .layer) (l .loop .v - 1) r _ _ _ (half-is s) (ap (λ (y : ℕ). l .loop .v - 1 + y) (bit-is d))
+    (g .run .ranked r (bin d .inside)) (bin d)
+
+-- it is within the store
+read-inside : (d : tie.After-first-zero-bit Inv-loop μ-loop)
+    → let l = d .before .before in
+    let a = head l .args in
+    let r = d .first-zero-bit .result in
+    getD (a .ranks .now) r 0 * (1 * 2 ^ (length (a .bits .now) - 1) % 2 ^ 64) + (l .loop .v - 1 + 1 * 2 ^ r % 2 ^ 64) / 2 < length (a .store .now)
+read-inside d = let s = head (d .before .before) in read d (s .args .stretch) (given s) .inside
 
 -- what it is: the bin of the turn, and the bin with the bit
-splits : (d : tie.After-first-zero-bit Inv-loop μ-loop)
+splits : (d : tie.After-first-zero-bit Inv-loop μ-loop) (x : Stretch) → Given-at (head (d .before .before)) x
     → let l = d .before .before in
     let a = head l .args in
     let r = d .first-zero-bit .result in
     let with = l .loop .v - 1 + 1 * 2 ^ r % 2 ^ 64 in
     getD (a .store .now) (getD (a .ranks .now) r 0 * (1 * 2 ^ (length (a .bits .now) - 1) % 2 ^ 64) + with / 2) 0
-    ≡ countIn (storedBit (a .stride) (a .words .now)) (a .n) (a .bits .now) (l .loop .v - 1) + getD (l .loop .bins) with 0
-splits d =
+    ≡ countIn (stretchBit x (a .words .now)) (span x) (a .bits .now) (l .loop .v - 1) + getD (l .loop .bins) with 0
+splits d x g =
     let l = d .before .before in
     let a = head l .args in
-    difference (storedBit (a .stride) (a .words .now)) (a .n) (a .bits .now) _ (room (head l)) (l .loop .v) _ (l .loop .bins) (a .store .now) _
-    (with-above d) (with-below d) (l .loop .inv .1) (read d)
+    difference (stretchBit x (a .words .now)) (span x) (a .bits .now) _ (room (head l)) (l .loop .v) _ (l .loop .bins) (a .store .now) _
+    (with-above d) (with-below d) (l .loop .inv .1 x g) (read d x g)
 
 sub-last : tie.Need-sub-last Inv-loop μ-loop
 sub-last c = search needs
@@ -167,7 +200,7 @@ loop-holds c =
     let s = first c in
     let a = s .args in (
       omega (arith, all-is s, pow-pos (length (a .bits .now))),
-      known-start (storedBit (a .stride) (a .words .now)) (a .n) (a .bits .now) (a .bins .now) (s .pre .1 .1 .1 .1 .1) _ _ (counted s),
+      λ x g. known-start (stretchBit x (a .words .now)) (span x) (a .bits .now) (a .bins .now) (s .pre .1 .1 .1 .1 .1) _ _ (counted s x g),
     )
 
 sub-v : tie.Need-sub-v Inv-loop μ-loop
@@ -198,16 +231,16 @@ shared-slice-read-previous : tie.Need-shared-slice-read-previous Inv-loop μ-loo
 shared-slice-read-previous c = omega (arith, bin (c .before) .inside, head (c .before .before .before) .pre .1 .1 .1 .0 .chosen)
 
 mul-previous-2 : tie.Need-mul-previous-2 Inv-loop μ-loop
-mul-previous-2 c = omega (arith, read (c .before) .inside, head (c .before .before .before) .good)
+mul-previous-2 c = omega (arith, read-inside (c .before), head (c .before .before .before) .good)
 
 add-previous : tie.Need-add-previous Inv-loop μ-loop
-add-previous c = omega (arith, read (c .before) .inside, head (c .before .before .before) .good)
+add-previous c = omega (arith, read-inside (c .before), head (c .before .before .before) .good)
 
 mul-previous-3 : tie.Need-mul-previous-3 Inv-loop μ-loop
-mul-previous-3 c = omega (arith, read (c .before) .inside, head (c .before .before .before) .good)
+mul-previous-3 c = omega (arith, read-inside (c .before), head (c .before .before .before) .good)
 
 shared-slice-read-previous-2 : tie.Need-shared-slice-read-previous-2 Inv-loop μ-loop
-shared-slice-read-previous-2 c = omega (arith, read (c .before .before) .inside)
+shared-slice-read-previous-2 c = omega (arith, read-inside (c .before .before))
 
 mul-bins-4 : tie.Need-mul-bins-4 Inv-loop μ-loop
 mul-bins-4 c = omega (arith, with-below (c .before .before), small (c .before .before .before .before))
@@ -215,10 +248,10 @@ mul-bins-4 c = omega (arith, with-below (c .before .before), small (c .before .b
 slice-read-bins : tie.Need-slice-read-bins Inv-loop μ-loop
 slice-read-bins c =
     let d = c .before .before .before in
-    omega (arith, with-below d, d .before .before .loop .inv .1 .size, room (head (d .before .before)))
+    omega (arith, with-below d, known (d .before .before) .size, room (head (d .before .before)))
 
 sub-bins : tie.Need-sub-bins Inv-loop μ-loop
-sub-bins c = omega (arith, splits (c .before .before .before))
+sub-bins c = let d = c .before .before .before in omega (arith, splits d (head (d .before .before) .args .stretch) (given (head (d .before .before))))
 
 mul-bins-5 : tie.Need-mul-bins-5 Inv-loop μ-loop
 mul-bins-5 c = omega (arith, with-below (c .before .before .before), small (c .before .before .before .before .before))
@@ -226,7 +259,7 @@ mul-bins-5 c = omega (arith, with-below (c .before .before .before), small (c .b
 slice-write-bins-2 : tie.Need-slice-write-bins-2 Inv-loop μ-loop
 slice-write-bins-2 c =
     let d = c .before .before .before in
-    omega (arith, d .before .before .loop .inv .0, d .before .before .loop .inv .1 .size, room (head (d .before .before)))
+    omega (arith, d .before .before .loop .inv .0, known (d .before .before) .size, room (head (d .before .before)))
 
 loop-less : tie.Need-loop-less Inv-loop μ-loop
 loop-less c = search needs
@@ -237,20 +270,20 @@ loop-again c =
     let l = d .before .before in
     let a = head l .args in (
       omega (arith, l .loop .inv .0),
-      known-more (storedBit (a .stride) (a .words .now)) (a .n) (a .bits .now) _ (room (head l)) (l .loop .v) (l .loop .bins) _
-          (d .before .loop-test .taken) (l .loop .inv .0) (omega (arith, splits d)) (l .loop .inv .1),
+      λ x g. known-more (stretchBit x (a .words .now)) (span x) (a .bits .now) _ (room (head l)) (l .loop .v) (l .loop .bins) _
+          (d .before .loop-test .taken) (l .loop .inv .0) (omega (arith, splits d x g)) (l .loop .inv .1 x g),
     )
 
 same-length : tie.Need-same-length Inv-loop μ-loop
-same-length c = c .before .loop .inv .1 .size ∙ simp length-set
+same-length c = known (c .before) .size ∙ simp length-set
 
 returns : tie.Need-returns Inv-loop μ-loop
 returns c =
     let l = c .before in
     let s = head l in
     let a = s .args in
-    all-known (storedBit (a .stride) (a .words .now)) (a .n) (a .bits .now) (a .bins .now) (s .pre .1 .1 .1 .1 .1) (l .loop .v) (l .loop .bins) (omega arith)
-    (known-from (storedBit (a .stride) (a .words .now)) (a .n) (a .bits .now) (a .bins .now) (s .pre .1 .1 .1 .1 .1) _ (l .loop .v) _ (l .loop .bins) (counted s) (l .loop .inv .1))
+    all-known (stretchBit (a .stretch) (a .words .now)) (span (a .stretch)) (a .bits .now) (a .bins .now) (s .pre .1 .1 .1 .1 .1) (l .loop .v) (l .loop .bins) (omega arith)
+    (known-from (stretchBit (a .stretch) (a .words .now)) (span (a .stretch)) (a .bits .now) (a .bins .now) (s .pre .1 .1 .1 .1 .1) _ (l .loop .v) _ (l .loop .bins) (counted s (a .stretch) (given s)) (known l))
 
 pub compute-bins-spec : {M : Type 1} → statement M
 compute-bins-spec =

@@ -6,7 +6,7 @@ use native.Mathlib.Nat.{le-refl}
 use lib.ListN.{length, take}
 use borrow.Rule.Slice.PartMut.{putMid}
 use borrow.Author.Tests.{not-true, not-false}
-use Rattle.counting.specs.Words.{storedBit}
+use Rattle.counting.specs.Stretch.{span, stretchBit}
 use Rattle.subsets.specs.Choose.{choose}
 use Rattle.subsets.specs.Rank.{rankOf}
 use Rattle.counting.proofs.Marks.{shifted-one}
@@ -18,12 +18,12 @@ use Rattle.layers.proofs.layers.fill_layer.Statement.{statement}
 use Rattle.layers.proofs.layers.fill_layer.Tie as tie
 
 abbrev Inv-loop : tie.InvT-loop
-Inv-loop d words stride n block-size prev counts₀ ranks₀ next₀ size bits₀ at₀ counts ranks next bits at =
-    (length bits ≡ 20) × Filled (storedBit stride words) n block-size d next₀ (take d bits) at next
-    × (length counts ≡ length counts₀) × (length ranks ≡ length ranks₀) × Run (storedBit stride words) n block-size (take d bits) counts ranks
+Inv-loop d words stretch prev counts₀ ranks₀ next₀ size bits₀ at₀ counts ranks next bits at =
+    (length bits ≡ 20) × Filled (stretchBit stretch words) (span stretch) (stretch .«block_size») d next₀ (take d bits) at next
+    × (length counts ≡ length counts₀) × (length ranks ≡ length ranks₀) × Run (stretchBit stretch words) (span stretch) (stretch .«block_size») (take d bits) counts ranks
 
 abbrev μ-loop : tie.MeasureT-loop
-μ-loop d words stride n block-size prev counts₀ ranks₀ next₀ size bits₀ at₀ counts ranks next bits at = choose block-size d - rankOf block-size (take d bits)
+μ-loop d words stretch prev counts₀ ranks₀ next₀ size bits₀ at₀ counts ranks next bits at = choose (stretch .«block_size») d - rankOf (stretch .«block_size») (take d bits)
 
 -- ---- the places: the entry, the first subset, the loop's head, the bins written, the step made
 
@@ -51,26 +51,26 @@ size-is s = shifted-one 64 (s .args .d) (omega (arith, s .pre .0))
 
 -- the first subset
 is-first : (c : tie.After-first Inv-loop μ-loop)
-    → let a = enter (c .before) .args in Filled (storedBit (a .stride) (a .words .now)) (a .n) (a .block-size) (a .d) (a .next .now) (take (a .d) (c .first .result)) 0 (a .next .now)
+    → let a = enter (c .before) .args in Filled (stretchBit (a .stretch) (a .words .now)) (span (a .stretch)) (a .stretch .«block_size») (a .d) (a .next .now) (take (a .d) (c .first .result)) 0 (a .next .now)
 is-first c =
     let s = enter (c .before) in
     let a = s .args in
-    begins (storedBit (a .stride) (a .words .now)) (a .n) (a .block-size) (a .d) (a .next .now) (c .first .result) (omega (arith, s .pre .0)) (c .first .ensures)
+    begins (stretchBit (a .stretch) (a .words .now)) (span (a .stretch)) (a .stretch .«block_size») (a .d) (a .next .now) (c .first .result) (omega (arith, s .pre .0)) (c .first .ensures)
 
 -- the place of the subset's bins is in the store
 room : (l : tie.At-loop Inv-loop μ-loop) → l .loop .at + 2 ^ start l .args .d ≤ length (l .loop .next)
 room l =
     let s = start l in
     let a = s .args in
-    fits (storedBit (a .stride) (a .words .now)) (a .n) (a .block-size) (a .d) (a .next .now) (take (a .d) (l .loop .bits)) (l .loop .at) (l .loop .next) (s .pre .1 .1 .1 .1) (l .loop .inv .1)
+    fits (stretchBit (a .stretch) (a .words .now)) (span (a .stretch)) (a .stretch .«block_size») (a .d) (a .next .now) (take (a .d) (l .loop .bits)) (l .loop .at) (l .loop .next) (s .pre .1 .1 .1 .1) (l .loop .inv .1)
 
 -- the run has its room
-run-room : (l : tie.At-loop Inv-loop μ-loop) → RunRoom (start l .args .block-size) (start l .args .d) (l .loop .counts) (l .loop .ranks)
+run-room : (l : tie.At-loop Inv-loop μ-loop) → RunRoom (start l .args .stretch .«block_size») (start l .args .d) (l .loop .counts) (l .loop .ranks)
 run-room l =
     let s = start l in
     let b = began l .begin-run in record {
-      bits = omega (arith, s .pre .1 .1 .1 .0 .bits, l .loop .inv .2, b .kept .1 .1 .1 .1 .1 .0);
-      chosen = omega (arith, s .pre .1 .1 .1 .0 .chosen, l .loop .inv .3, b .kept .1 .1 .1 .1 .1 .1 .0);
+      bits = omega (arith, s .pre .1 .1 .1 .0 .bits, l .loop .inv .2, b .kept .1 .1 .1 .0);
+      chosen = omega (arith, s .pre .1 .1 .1 .0 .chosen, l .loop .inv .3, b .kept .1 .1 .1 .1 .0);
     }
 
 -- what the store holds once the subset's bins are in it
@@ -78,14 +78,14 @@ done : (c : tie.After-compute-bins Inv-loop μ-loop)
     → let l = head c in
     let a = start l .args in
     let p = 1 * 2 ^ a .d % 2 ^ 64 in
-    Written (storedBit (a .stride) (a .words .now)) (a .n) (a .block-size) (a .d) (a .next .now) (take (a .d) (l .loop .bits))
-    (putMid (l .loop .at) (l .loop .at + p - l .loop .at) (l .loop .next) (c .compute-bins .last .1 .1 .1 .1 .1 .1 .1 .1 .0))
+    Written (stretchBit (a .stretch) (a .words .now)) (span (a .stretch)) (a .stretch .«block_size») (a .d) (a .next .now) (take (a .d) (l .loop .bits))
+    (putMid (l .loop .at) (l .loop .at + p - l .loop .at) (l .loop .next) (c .compute-bins .last .1 .1 .1 .1 .1 .1 .0))
 done c =
     let l = head c in
     let s = start l in
     let a = s .args in
-    written (storedBit (a .stride) (a .words .now)) (a .n) (a .block-size) (a .d) (a .next .now) (take (a .d) (l .loop .bits)) (l .loop .at) (l .loop .next) (s .pre .1 .1 .1 .1) (l .loop .inv .1)
-    (1 * 2 ^ a .d % 2 ^ 64) (c .compute-bins .last .1 .1 .1 .1 .1 .1 .1 .1 .0) (size-is s) (c .compute-bins .ensures)
+    written (stretchBit (a .stretch) (a .words .now)) (span (a .stretch)) (a .stretch .«block_size») (a .d) (a .next .now) (take (a .d) (l .loop .bits)) (l .loop .at) (l .loop .next) (s .pre .1 .1 .1 .1) (l .loop .inv .1)
+    (1 * 2 ^ a .d % 2 ^ 64) (c .compute-bins .last .1 .1 .1 .1 .1 .1 .0) (size-is s) (c .compute-bins .ensures)
 
 cast-size : tie.Need-cast-size Inv-loop μ-loop
 cast-size c = search needs
@@ -162,13 +162,13 @@ same-length : tie.Need-same-length Inv-loop μ-loop
 same-length c =
     let d = c .before .before .before .before .before .before in
     let l = head (bins d) in
-    d .advance .kept .1 .1 .1 .1 .1 .1 .0 ∙ l .loop .inv .2 ∙ began l .begin-run .kept .1 .1 .1 .1 .1 .0
+    d .advance .kept .1 .1 .1 .1 .0 ∙ l .loop .inv .2 ∙ began l .begin-run .kept .1 .1 .1 .0
 
 same-length-2 : tie.Need-same-length-2 Inv-loop μ-loop
 same-length-2 c =
     let d = c .before .before .before .before .before .before in
     let l = head (bins d) in
-    d .advance .kept .1 .1 .1 .1 .1 .1 .1 .0 ∙ l .loop .inv .3 ∙ began l .begin-run .kept .1 .1 .1 .1 .1 .1 .0
+    d .advance .kept .1 .1 .1 .1 .1 .0 ∙ l .loop .inv .3 ∙ began l .begin-run .kept .1 .1 .1 .1 .0
 
 same-length-3 : tie.Need-same-length-3 Inv-loop μ-loop
 same-length-3 c = done (bins (c .before .before .before .before .before .before)) .size
@@ -179,7 +179,7 @@ returns c =
     let l = head (bins d) in
     let a = start l .args in
     let step = d .advance in (
-      finished (storedBit (a .stride) (a .words .now)) (a .n) (a .block-size) (a .d) (a .next .now) (take (a .d) (l .loop .bits)) _
+      finished (stretchBit (a .stretch) (a .words .now)) (span (a .stretch)) (a .stretch .«block_size») (a .d) (a .next .now) (take (a .d) (l .loop .bits)) _
           (l .loop .inv .1 .current) (step .ensures .0 .last (not-true (step .result) (c .if1 .taken))) (done (bins d)),
       done (bins d) .rest,
     )
@@ -190,7 +190,7 @@ loop-less c =
     let l = head (bins d) in
     let a = start l .args in
     let step = d .advance in
-    next-falls (a .block-size) (a .d) (take (a .d) (l .loop .bits)) (take (a .d) (step .last .0)) (l .loop .inv .1 .current) (step .ensures .0 .next (not-false (step .result) (c .if1 .left)))
+    next-falls (a .stretch .«block_size») (a .d) (take (a .d) (l .loop .bits)) (take (a .d) (step .last .0)) (l .loop .inv .1 .current) (step .ensures .0 .next (not-false (step .result) (c .if1 .left)))
 
 loop-again : tie.Need-loop-again Inv-loop μ-loop
 loop-again c =
@@ -201,10 +201,10 @@ loop-again c =
     let step = d .advance in
     let some = not-false (step .result) (c .if1 .left) in (
       step .kept .0 ∙ l .loop .inv .0,
-      next-place (storedBit (a .stride) (a .words .now)) (a .n) (a .block-size) (a .d) (a .next .now) (take (a .d) (l .loop .bits)) (take (a .d) (step .last .0)) (l .loop .at) (1 * 2 ^ a .d % 2 ^ 64) _
+      next-place (stretchBit (a .stretch) (a .words .now)) (span (a .stretch)) (a .stretch .«block_size») (a .d) (a .next .now) (take (a .d) (l .loop .bits)) (take (a .d) (step .last .0)) (l .loop .at) (1 * 2 ^ a .d % 2 ^ 64) _
           (l .loop .inv .1 .current) (step .ensures .0 .next some) (l .loop .inv .1 .place) (size-is s) (done (bins d)),
-      step .kept .1 .1 .1 .1 .1 .1 .0 ∙ l .loop .inv .2,
-      step .kept .1 .1 .1 .1 .1 .1 .1 .0 ∙ l .loop .inv .3,
+      step .kept .1 .1 .1 .1 .0 ∙ l .loop .inv .2,
+      step .kept .1 .1 .1 .1 .1 .0 ∙ l .loop .inv .3,
       step .ensures .1 some,
     )
 

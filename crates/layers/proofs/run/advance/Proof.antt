@@ -6,7 +6,7 @@ use native.Mathlib.Omega.{arith}
 use lib.ListN.{length, getD, take}
 use borrow.Author.Needs.{needs}
 use borrow.Author.Tests.{not-true, not-false}
-use Rattle.counting.specs.Words.{storedBit}
+use Rattle.counting.specs.Stretch.{span, stretchBit}
 use Rattle.subsets.specs.Subsets.{Subset}
 use Rattle.subsets.specs.Stepping.{Stepped}
 use Rattle.subsets.proofs.Carrying.{fills, code-last, code-bump}
@@ -19,19 +19,19 @@ start d = d .before .before .before .before .before
 
 -- the bits fill their entries, and the last is in the block
 room : (s : tie.Start) → s .args .k ≤ length (s .args .bits .now)
-room s = fills (s .args .block-size) (s .args .k) (s .args .bits .now) (s .pre .1 .0)
+room s = fills (s .args .stretch .«block_size») (s .args .k) (s .args .bits .now) (s .pre .1 .0)
 
-inside : (s : tie.Start) → getD (s .args .bits .now) (s .args .k - 1) 0 < s .args .block-size
+inside : (s : tie.Start) → getD (s .args .bits .now) (s .args .k - 1) 0 < s .args .stretch .«block_size»
 inside s =
     let e : s .args .k ≡ suc (s .args .k - 1) = omega (arith, s .pre .0) in
-    code-last (s .args .block-size) (s .args .k) (s .args .k - 1) (s .args .bits .now) e (s .pre .1 .0)
+    code-last (s .args .stretch .«block_size») (s .args .k) (s .args .k - 1) (s .args .bits .now) e (s .pre .1 .0)
 
 -- the next subset, where the step is made
 abbrev entry : tie.After-successor → tie.Start
 entry d = start (d .before .before .before)
 
 found : (d : tie.After-successor) → d .successor .result ≡ true
-    → Subset (entry d .args .block-size) (entry d .args .k) (take (entry d .args .k) (d .successor .last .0))
+    → Subset (entry d .args .stretch .«block_size») (entry d .args .k) (take (entry d .args .k) (d .successor .last .0))
 found d e = d .successor .ensures .next e .subset
 
 sub-at : tie.Need-sub-at
@@ -61,7 +61,7 @@ raise-requires c κs =
     let a = s .args in (
       omega (arith, s .pre .1 .1 .1 .1 .0 .chosen),
       λ i h.
-          rank-small (storedBit (a .stride) (a .words .now)) (a .n) (a .block-size) (a .k) (take (a .k) (a .bits .now)) (a .counts .now) (a .ranks .now)
+          rank-small (stretchBit (a .stretch) (a .words .now)) (span (a .stretch)) (a .stretch .«block_size») (a .k) (take (a .k) (a .bits .now)) (a .counts .now) (a .ranks .now)
           (s .pre .1 .0) (s .pre .0 .0) (s .pre .1 .1 .1 .0) (s .pre .1 .1 .1 .1 .1) i (omega arith),
     )
 
@@ -79,9 +79,9 @@ returns c =
     let a = s .args in
     let e : a .k ≡ suc (a .k - 1) = omega (arith, s .pre .0) in
     let v = getD (a .bits .now) (a .k - 1) 0 + 1 in (
-      code-bump (a .block-size) (a .k) (a .k - 1) v (a .bits .now) e (s .pre .1 .0) (omega arith) (omega (arith, at-then .if1 .taken)),
+      code-bump (a .stretch .«block_size») (a .k) (a .k - 1) v (a .bits .now) e (s .pre .1 .0) (omega arith) (omega (arith, at-then .if1 .taken)),
       λ _.
-          stepped (storedBit (a .stride) (a .words .now)) (a .n) (a .block-size) (a .k) (a .k - 1) v (a .bits .now) (a .counts .now) (a .ranks .now) (raised .raise .last .0)
+          stepped (stretchBit (a .stretch) (a .words .now)) (span (a .stretch)) (a .stretch .«block_size») (a .k) (a .k - 1) v (a .bits .now) (a .counts .now) (a .ranks .now) (raised .raise .last .0)
           e (s .pre .1 .0) (omega arith) (omega (arith, at-then .if1 .taken)) (λ i h. raised .raise .ensures .0 i (omega arith)) (λ i h. raised .raise .ensures .1 i (omega arith)) (s .pre .1 .1 .1 .1 .1),
     )
 
@@ -96,12 +96,12 @@ returns-2 c =
     let d = c .before .before .before in
     let a = entry d .args in
     let none : d .successor .result ≡ false = not-true (d .successor .result) (c .if2 .taken) in
-    (subst (λ (r : Bool). Stepped (a .block-size) (a .k) (a .bits .now) r (d .successor .last .0)) none (d .successor .ensures), λ e. absurd (false≢true e))
+    (subst (λ (r : Bool). Stepped (a .stretch .«block_size») (a .k) (a .bits .now) r (d .successor .last .0)) none (d .successor .ensures), λ e. absurd (false≢true e))
 
 slice-reshare-prefix-begin-run : tie.Need-slice-reshare-prefix-begin-run
 slice-reshare-prefix-begin-run c =
     let d = c .before .before .before in
-    omega (arith, fills (entry d .args .block-size) (entry d .args .k) (d .successor .last .0) (found d (not-false (d .successor .result) (c .if2 .left))))
+    omega (arith, fills (entry d .args .stretch .«block_size») (entry d .args .k) (d .successor .last .0) (found d (not-false (d .successor .result) (c .if2 .left))))
 
 slice-aggregate-begin-run : tie.Need-slice-aggregate-begin-run
 slice-aggregate-begin-run c =
@@ -132,7 +132,7 @@ returns-3 c =
     let d = at-else .before .before .before in
     let a = entry d .args in
     let some : d .successor .result ≡ true = not-false (d .successor .result) (at-else .if2 .left) in
-    (subst (λ (r : Bool). Stepped (a .block-size) (a .k) (a .bits .now) r (d .successor .last .0)) some (d .successor .ensures), λ _. began .begin-run .ensures)
+    (subst (λ (r : Bool). Stepped (a .stretch .«block_size») (a .k) (a .bits .now) r (d .successor .last .0)) some (d .successor .ensures), λ _. began .begin-run .ensures)
 
 pub advance-spec : {M : Type 1} → statement M
 advance-spec =

@@ -6,7 +6,7 @@ use lib.ListN.{length}
 use lib.Seq.{length-take-le}
 use borrow.Author.Needs.{needs}
 use borrow.Rule.Slice.PartMut.{midOf, mid-len}
-use Rattle.counting.specs.Words.{storedBit}
+use Rattle.counting.specs.Stretch.{span, stretchBit}
 use Rattle.counting.proofs.Halves.{rows-init}
 use Rattle.subsets.proofs.Listing.{bits-below}
 use Rattle.layers.specs.Run.{lastBit, leading}
@@ -19,11 +19,11 @@ abbrev start : tie.After-shared-slice-known3 → tie.Start
 start d = d .before .before .before .before .before
 
 -- the last bit is in the block
-inside : (d : tie.After-shared-slice-known3) → lastBit (start d .args .bits .now) < start d .args .block-size
+inside : (d : tie.After-shared-slice-known3) → lastBit (start d .args .bits .now) < start d .args .stretch .«block_size»
 inside d =
     let s = start d in
     let b = s .args .bits .now in
-    bits-below (s .args .block-size) (length b) b (s .pre .1 .0) (length b - 1) (omega (arith, s .pre .0))
+    bits-below (s .args .stretch .«block_size») (length b) b (s .pre .1 .0) (length b - 1) (omega (arith, s .pre .0))
 
 sub-at : tie.Need-sub-at
 sub-at c = search needs
@@ -62,8 +62,8 @@ multi-eval-requires c κs =
     let b = a .bits .now in
     let x = lastBit b in
     let size : length (leading b) ≡ length b - 1 = length-take-le (length b - 1) b (omega arith) in
-    let rows = rows-init (a .words .now) (a .stride) b (length b - 1) (rows-in (a .block-size) (length b) (a .stride) (a .words .now) b (s .pre .1 .0) (s .pre .1 .1 .0 .0)) in
-    let all : x + length (midOf x (a .block-size - x) (a .counts .now)) ≡ a .block-size = omega (arith, inside d, mid-len x (a .block-size) (a .counts .now) (s .pre .1 .1 .1 .1 .bits)) in
+    let rows = rows-init (a .words .now) (a .stretch .stride) b (length b - 1) (rows-in (a .stretch .«block_size») (length b) (a .stretch .stride) (a .words .now) b (s .pre .1 .0) (s .pre .1 .1 .0 .0)) in
+    let all : x + length (midOf x (a .stretch .«block_size» - x) (a .counts .now)) ≡ a .stretch .«block_size» = omega (arith, inside d, mid-len x (a .stretch .«block_size») (a .counts .now) (s .pre .1 .1 .1 .1 .bits)) in
     (omega (arith, size, s .pre .0), (rows, (s .pre .1 .1 .0 .1, (omega (arith, all, s .pre .0), rw all (s .pre .1 .1 .0 .0)))))
 
 ranks-without-requires : tie.Need-ranks-without-requires
@@ -82,8 +82,8 @@ returns c =
     let d = m .before .before .before in
     let s = start d in
     let a = s .args in
-    begun (storedBit (a .stride) (a .words .now)) (a .n) (a .block-size) (a .bits .now) (a .counts .now) (m .multi-eval .last .1 .1 .1 .1 .1 .0) (ranked .ranks-without .last .1 .1 .0)
-    (omega (arith, inside d)) (s .pre .1 .1 .1 .1 .bits) (m .multi-eval .kept .1 .1 .1 .1 .1 .0) (m .multi-eval .ensures) (ranked .ranks-without .ensures)
+    begun (stretchBit (a .stretch) (a .words .now)) (span (a .stretch)) (a .stretch .«block_size») (a .bits .now) (a .counts .now) (m .multi-eval .last .1 .1 .1 .1 .0) (ranked .ranks-without .last .1 .1 .0)
+    (omega (arith, inside d)) (s .pre .1 .1 .1 .1 .bits) (m .multi-eval .kept .1 .1 .1 .1 .0) (m .multi-eval .ensures) (ranked .ranks-without .ensures)
 
 pub begin-run-spec : {M : Type 1} → statement M
 begin-run-spec =

@@ -1,8 +1,11 @@
--- `replay::replay` meets its contract: past the refusals the calls are a session, of which the claim holds.
+-- `replay::replay` meets its contract: past the refusals the calls are an acquisition and its searches, of which the claim holds.
 use mathlib.Core.Path.{_≡_, sym, ap, subst, _∙_}
+use Prim.Native.Nat.{ℕ}
 use lib.ListN.{length}
 use Rattle.counting.specs.Recorded.{State, started, answersFrom}
+use Rattle.counting.specs.Sampling.{blocksOf}
 use Rattle.searching.specs.Refusal.{searchRefusal}
+use Rattle.searching.specs.Search.{DirectSearch}
 use Rattle.replay.specs.Pieces.{cut, refusedIn, stateOf}
 use Rattle.replay.specs.Replay.{replayRefusal, refusedReplay}
 use Rattle.replay.proofs.Refusing.{ReplayFree, replay-free, as-lent}
@@ -65,8 +68,11 @@ search-layered-requires c κs =
     let f = c .before .before .before .before .before .before .before in
     let e = f .before .before .before .before .before .before in
     let a = entry e .args in
-    subst (λ (q : State). searchRefusal (q .sampler) (length (q .words)) (a .k) ≡ 0) (sym (arrived f))
+    subst (λ (q : State). searchRefusal (q .sampler) (length (q .words)) 0 (blocksOf (q .sampler)) (a .k) ≡ 0) (sym (arrived f))
     (searchable (a .block-size) (a .words .now) (cut (a .recording .now) (a .lengths .now)) (free e .valid) (a .k) (free e .no-width))
+
+blocks-requires : tie.Need-blocks-requires
+blocks-requires c κs = search needs
 
 brute-force-threads-requires : tie.Need-brute-force-threads-requires
 brute-force-threads-requires c κs = search needs
@@ -76,7 +82,7 @@ agreeing-requires c κs = search needs
 
 same-length : tie.Need-same-length
 same-length c =
-    let f = c .before .before .before .before .before .before .before .before .before .before .before .before .before .before .before .before .before .before .before .before .before .before .before .before .before .before .before in
+    let f = c .before .before .before .before .before .before .before .before .before .before .before .before .before .before .before .before .before .before .before .before .before .before .before .before .before .before .before .before in
     f .feed-pieces .kept .1 .0 ∙ f .before .before .before .before .start .kept .1 .0
 
 same-length-2 : tie.Need-same-length-2
@@ -95,14 +101,17 @@ returns-2 : tie.Need-returns-2
 returns-2 c =
     let agreed = c .before .before in
     let d = agreed .before .before .before .before .before in
-    let l = d .before .before .before .before .before .before .before .before .before .before .before .before in
+    let n = d .before .before .before .before .blocks2 in
+    let l = d .before .before .before .before .before .before .before .before .before .before .before .before .before in
     let f = l .before .before .before .before .before .before .before .before in
     let e = f .before .before .before .before .before .before in
     let a = entry e .args in
     replayed (a .block-size) (a .words .now) (cut (a .recording .now) (a .lengths .now)) (length (a .recording .now)) (a .lengths .now) (a .k) (a .first .now) (a .second .now)
     (a .bins .now) (a .order .now) (free e) (f .feed-pieces .result) (l .search-layered .result) (d .brute-force-threads .result) (f .feed-pieces .last .1 .0)
     (l .search-layered .last .1 .1 .1 .0) (l .search-layered .last .1 .1 .1 .1 .0) (l .search-layered .last .1 .1 .1 .1 .1 .0) (l .search-layered .last .1 .1 .1 .1 .1 .1 .0)
-    (d .brute-force-threads .last .1 .1 .1 .0) (d .brute-force-threads .last .1 .1 .1 .1 .0) (arrived f) (l .search-layered .ensures) (d .brute-force-threads .ensures)
+    (d .brute-force-threads .last .1 .1 .1 .1 .1 .0) (d .brute-force-threads .last .1 .1 .1 .1 .1 .1 .0) (arrived f) (l .search-layered .ensures)
+    (subst (λ (m : ℕ). DirectSearch (f .feed-pieces .result .sampler) (f .feed-pieces .last .1 .0) 0 m (a .k) (l .search-layered .last .1 .1 .1 .1 .1 .0) (l .search-layered .last .1 .1 .1 .1 .1 .1 .0)
+    (d .brute-force-threads .result) (d .brute-force-threads .last .1 .1 .1 .1 .1 .0) (d .brute-force-threads .last .1 .1 .1 .1 .1 .1 .0)) (n .ensures) (d .brute-force-threads .ensures))
     (l .search-layered .kept .1 .1 .1 .1 .1 .0) (l .search-layered .kept .1 .1 .1 .1 .1 .1 .0) (counted f) (agreed .agreeing .result) (agreed .agreeing .ensures) _ (none e)
 
 pub replay-spec : {M : Type 1} → statement M
@@ -115,6 +124,7 @@ replay-spec =
     start-requires
     feed-pieces-requires
     search-layered-requires
+    blocks-requires
     brute-force-threads-requires
     agreeing-requires
     same-length

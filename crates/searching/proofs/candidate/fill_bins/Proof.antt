@@ -7,7 +7,7 @@ use lib.ListN.{length, take, drop}
 use lib.Seq.{length-take-le}
 use borrow.Author.Needs.{needs}
 use Rattle.counting.specs.Sample.{countsOf}
-use Rattle.counting.specs.Words.{storedBit}
+use Rattle.counting.specs.Stretch.{span, stretchBit}
 use Rattle.layers.proofs.Filling.{rows-in}
 use Rattle.searching.proofs.candidate.fill_bins.Statement.{statement}
 use Rattle.searching.proofs.candidate.fill_bins.Tie as tie
@@ -36,7 +36,7 @@ multi-eval-neg-requires c κs =
     let s = start (m .before .before) in
     let a = s .args in (
       (s .pre .0 .some, s .pre .0 .width, part m ∙ m .bin-count .ensures),
-      (rows-in (a .block-size) (length (a .bits .now)) (a .stride) (a .words .now) (a .bits .now) (s .pre .1 .0) (s .pre .0 .rows), s .pre .0 .blocks),
+      (rows-in (a .stretch .«block_size») (length (a .bits .now)) (a .stretch .stride) (a .words .now) (a .bits .now) (s .pre .1 .0) (s .pre .0 .rows .0), s .pre .0 .rows .1),
     )
 
 compute-bins-requires : tie.Need-compute-bins-requires
@@ -57,7 +57,7 @@ returns c =
     let m = e .before .before in
     let a = start (m .before .before) .args in
     ap (λ (l : List ℕ). l ++ drop (m .bin-count .result) (a .bins .now)) (e .multi-eval-neg .ensures)
-    ∙ ap (λ (x : ℕ). countsOf (storedBit (a .stride) (a .words .now)) (a .n) (a .bits .now) ++ drop x (a .bins .now)) (m .bin-count .ensures)
+    ∙ ap (λ (x : ℕ). countsOf (stretchBit (a .stretch) (a .words .now)) (span (a .stretch)) (a .bits .now) ++ drop x (a .bins .now)) (m .bin-count .ensures)
 
 same-length-2 : tie.Need-same-length-2
 same-length-2 c = search needs

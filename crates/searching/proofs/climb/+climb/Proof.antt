@@ -2,7 +2,7 @@
 use mathlib.Core.Path.{_≡_, refl, sym, subst, _∙_}
 use native.Mathlib.Omega.{arith}
 use lib.ListN.{length}
-use Rattle.counting.specs.Words.{storedBit}
+use Rattle.counting.specs.Stretch.{span, stretchBit}
 use Rattle.layers.specs.Layers.{Holds}
 use Rattle.searching.proofs.Climbing.{exchanged, below, made-second, past}
 use Rattle.layers.proofs.Running.{room-stays}
@@ -19,7 +19,7 @@ use Rattle.searching.proofs.climb.+climb.{statement}
 use Rattle.searching.proofs.climb.+climb.Tie.{close}
 
 abbrev μ-climb : Measures 7 climb-kinds.ps ℕ
-μ-climb κs a = a .1 .1 .1 .1 .1 .1 .1 .0 - a .0
+μ-climb κs a = a .1 .1 .1 .1 .1 .0 - a .0
 
 abbrev climb-at : ℕ → In 7 climb-kinds.ps
 climb-at t = and 7 climb-kinds.ps (is 7 climb-kinds.ps μ-climb t) climb.Pre
@@ -50,7 +50,7 @@ climb-find-requires t c κs =
     let s = e .before .before .before .before .before .before .before .before in
     let a = s .args in
     let P = s .pre .1 in
-    (P .1 .1 .0, (below (storedBit (a .stride) (a .words .now)) (a .n) (a .block-size) (a .d) (a .k) (a .lower .now) (e .if1 .taken) (P .1 .1 .1 .1 .0), (λ _. P .1 .0, P .1 .1 .1 .1 .1)))
+    (P .1 .1 .0, (below (stretchBit (a .stretch) (a .words .now)) (span (a .stretch)) (a .stretch .«block_size») (a .d) (a .k) (a .lower .now) (e .if1 .taken) (P .1 .1 .1 .1 .0), (λ _. P .1 .0, P .1 .1 .1 .1 .1)))
 
 climb-same-length : (t : ℕ) → climb-lts.Need-same-length (
   find-reads.Asked,
@@ -128,13 +128,13 @@ climb-fill-layer-requires t c κs =
     let wide : a .d + 1 ≤ max 1 (a .k - 1) = omega (arith, P .0) in
     let one : 1 ≤ a .d + 1 = omega arith in
     let twenty : a .d + 1 ≤ 20 = omega (arith, P .0, P .1 .1 .0 .width) in
-    let inside : a .d + 1 ≤ a .block-size = omega (arith, P .0, P .1 .1 .0 .chosen) in
-    let small : a .block-size < 4294967296 = omega (arith, P .1 .1 .0 .size) in (
+    let inside : a .d + 1 ≤ a .stretch .«block_size» = omega (arith, P .0, P .1 .1 .0 .chosen) in
+    let small : a .stretch .«block_size» < 4294967296 = omega (arith, P .1 .1 .0 .size) in (
       (one, twenty, inside, small),
       (
-        (P .1 .1 .0 .rows, P .1 .1 .0 .blocks),
+        P .1 .1 .0 .rows,
         (
-          subst (λ (m : ℕ). Holds (storedBit (a .stride) (a .words .now)) (a .n) (a .block-size) m (a .lower .now)) (sym same) (P .1 .1 .1 .1 .0),
+          subst (λ (m : ℕ). Holds (stretchBit (a .stretch) (a .words .now)) (span (a .stretch)) (a .stretch .«block_size») m (a .lower .now)) (sym same) (P .1 .1 .1 .1 .0),
           (record { bits = P .1 .0 .bits; chosen = omega (arith, P .0, P .1 .0 .chosen) }, P .1 .1 .1 .0 (a .d + 1) one wide .second),
         ),
       ),
@@ -158,20 +158,20 @@ climb-climb-requires t c κs =
     let less : a .d + 1 < a .k = omega (arith, P .0) in
     let fewer : a .k - (a .d + 1) < t = omega (arith, P .0, s .pre .0) in
     let r = f .fill-layer in
-    let upper = r .last .1 .1 .1 .1 .1 .1 .1 .1 .0 in
-    let kept : length upper ≡ length (a .upper .now) = r .kept .1 .1 .1 .1 .1 .1 .1 .1 .0 in (
+    let upper = r .last .1 .1 .1 .1 .1 .1 .0 in
+    let kept : length upper ≡ length (a .upper .now) = r .kept .1 .1 .1 .1 .1 .1 .0 in (
       fewer,
       (
         (one, less),
         (
-          room-stays (a .block-size) (a .k) (a .k) (a .counts .now) (a .ranks .now) (r .last .1 .1 .1 .1 .1 .1 .0) (r .last .1 .1 .1 .1 .1 .1 .1 .0)
-              (r .kept .1 .1 .1 .1 .1 .1 .0) (r .kept .1 .1 .1 .1 .1 .1 .1 .0) refl (P .1 .0),
+          room-stays (a .stretch .«block_size») (a .k) (a .k) (a .counts .now) (a .ranks .now) (r .last .1 .1 .1 .1 .0) (r .last .1 .1 .1 .1 .1 .0)
+              (r .kept .1 .1 .1 .1 .0) (r .kept .1 .1 .1 .1 .1 .0) refl (P .1 .0),
           (
             P .1 .1 .0,
             (
-              exchanged (a .block-size) (a .k) (length (a .lower .now)) (length (a .upper .now)) (length upper) (length (a .lower .now)) kept refl (P .1 .1 .1 .0),
+              exchanged (a .stretch .«block_size») (a .k) (length (a .lower .now)) (length (a .upper .now)) (length upper) (length (a .lower .now)) kept refl (P .1 .1 .1 .0),
               (
-                made-second (a .block-size) (a .k) (length (a .lower .now)) (length (a .upper .now)) (a .d + 1) (P .1 .1 .1 .0) one wide (storedBit (a .stride) (a .words .now)) (a .n) upper kept (r .ensures .0),
+                made-second (a .stretch .«block_size») (a .k) (length (a .lower .now)) (length (a .upper .now)) (a .d + 1) (P .1 .1 .1 .0) one wide (stretchBit (a .stretch) (a .words .now)) (span (a .stretch)) upper kept (r .ensures .0),
                 P .1 .1 .1 .1 .1,
               ),
             ),
@@ -260,7 +260,7 @@ climb-returns-2 t c =
       (
         g .climb .ensures .1 .1,
         g .climb .ensures .1 .0
-            ∙ past (a .block-size) (a .k) (length (a .lower .now)) (length (a .upper .now)) (a .d + 1) (P .1 .1 .1 .0) one wide (a .upper .now) (f .fill-layer .last .1 .1 .1 .1 .1 .1 .1 .1 .0) (f .fill-layer .ensures .1),
+            ∙ past (a .stretch .«block_size») (a .k) (length (a .lower .now)) (length (a .upper .now)) (a .d + 1) (P .1 .1 .1 .0) one wide (a .upper .now) (f .fill-layer .last .1 .1 .1 .1 .1 .1 .0) (f .fill-layer .ensures .1),
       ),
     )
 

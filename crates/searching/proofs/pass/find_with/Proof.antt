@@ -1,13 +1,14 @@
 -- `pass::find_with` meets its contract: the pick gives the winner, and ranking it once more leaves its counts and order in the buffers.
-use mathlib.Core.Path.{_≡_, refl, sym, ap, _∙_}
+use mathlib.Core.Path.{_≡_, refl, sym, ap, subst, _∙_}
 use mathlib.Core.List.{List, _++_}
 use Prim.Native.Nat.{ℕ, _^_, _≤_}
 use native.Mathlib.Omega.{arith}
 use lib.ListN.{length, take, drop, length-take}
 use borrow.Author.Needs.{needs}
 use Rattle.counting.specs.Sample.{countsOf}
-use Rattle.counting.specs.Words.{storedBit}
+use Rattle.counting.specs.Stretch.{span, stretchBit}
 use Rattle.ranking.specs.Order.{orderOf}
+use Rattle.ranking.specs.Ranking.{Roots}
 use Rattle.subsets.specs.Subsets.{Subset}
 use Rattle.searching.specs.Finding.{winnerOf, rankingOf}
 use Rattle.searching.specs.Pass.{Space}
@@ -16,8 +17,8 @@ use Rattle.searching.proofs.Walking.{winner-optimal, winner-front}
 use Rattle.searching.proofs.pass.find_with.Statement.{statement}
 use Rattle.searching.proofs.pass.find_with.Tie as tie
 
-cast-fill-roots : tie.Need-cast-fill-roots
-cast-fill-roots c = search needs
+span-requires : tie.Need-span-requires
+span-requires c κs = c .before .before .before .before .before .before .before .before .pre .1 .0 .rows .1
 
 fill-roots-requires : tie.Need-fill-roots-requires
 fill-roots-requires c κs = search needs
@@ -25,7 +26,7 @@ fill-roots-requires c κs = search needs
 -- ---- the places: the roots made, the pass made, the winner's run begun, the winner ranked
 
 abbrev begin-of : tie.After-fill-roots → tie.Start
-begin-of f = f .before .before .before .before .before .before .before .before .before
+begin-of f = f .before .before .before .before .before .before .before .before .before .before
 
 abbrev filled : tie.After-pick → tie.After-fill-roots
 filled w = w .before .before .before .before .before .before .before .before
@@ -36,34 +37,38 @@ start w = begin-of (filled w)
 abbrev passed : tie.After-begin → tie.After-pick
 passed g = g .before .before .before .before .before .before .before .before .before .before .before .before
 
+-- the roots of as many blocks
+roots : (f : tie.After-fill-roots) → Roots (span (begin-of f .args .stretch)) (begin-of f .args .k) (f .fill-roots .last .0)
+roots f = subst (λ (m : ℕ). Roots m (begin-of f .args .k) (f .fill-roots .last .0)) (f .before .span .ensures) (f .fill-roots .ensures)
+
 abbrev winner : tie.Start → List ℕ
-winner s = winnerOf (storedBit (s .args .stride) (s .args .words .now)) (s .args .n) (s .args .block-size) (s .args .k)
+winner s = winnerOf (stretchBit (s .args .stretch) (s .args .words .now)) (span (s .args .stretch)) (s .args .stretch .«block_size») (s .args .k)
 
 pick-requires : tie.Need-pick-requires
 pick-requires c κs =
     let f = c .before .before .before .before .before .before .before in
     let s = begin-of f in
-    (s .pre .1 .0, (s .pre .1 .1 .0, (s .pre .1 .1 .1 .0, (s .pre .1 .1 .1 .1, f .fill-roots .ensures))))
+    (s .pre .1 .0, (s .pre .1 .1 .0, (s .pre .1 .1 .1 .0, (s .pre .1 .1 .1 .1, roots f))))
 
 is-winner : (w : tie.After-pick) → take (start w .args .k) (w .pick .result) ≡ winner (start w)
 is-winner w =
     let s = start w in
-    winner-front (storedBit (s .args .stride) (s .args .words .now)) (s .args .n) (s .args .block-size) (s .args .k) (w .pick .result) (s .pre .1 .0 .chosen) (w .pick .ensures .0)
+    winner-front (stretchBit (s .args .stretch) (s .args .words .now)) (span (s .args .stretch)) (s .args .stretch .«block_size») (s .args .k) (w .pick .result) (s .pre .1 .0 .chosen) (w .pick .ensures .0)
 
-winner-is : (s : tie.Start) → Subset (s .args .block-size) (s .args .k) (winner s)
-winner-is s = winner-optimal (storedBit (s .args .stride) (s .args .words .now)) (s .args .n) (s .args .block-size) (s .args .k) (s .pre .1 .0 .chosen) .subset
+winner-is : (s : tie.Start) → Subset (s .args .stretch .«block_size») (s .args .k) (winner s)
+winner-is s = winner-optimal (stretchBit (s .args .stretch) (s .args .words .now)) (span (s .args .stretch)) (s .args .stretch .«block_size») (s .args .k) (s .pre .1 .0 .chosen) .subset
 
 size : (w : tie.After-pick) → length (take (start w .args .k) (w .pick .result)) ≡ start w .args .k
 size w = ap length (is-winner w) ∙ winner-is (start w) .size
 
 -- there is room for its run still
 space : (w : tie.After-pick)
-    → let a = start w .args in Space (a .block-size) (a .k) (a .layer .now) (w .pick .last .1 .1 .1 .1 .1 .1 .1 .0) (w .pick .last .1 .1 .1 .1 .1 .1 .1 .1 .0)
+    → let a = start w .args in Space (a .stretch .«block_size») (a .k) (a .layer .now) (w .pick .last .1 .1 .1 .1 .1 .0) (w .pick .last .1 .1 .1 .1 .1 .1 .0)
 space w h =
     let s = start w in
     let a = s .args in
-    room-stays (a .block-size) (a .k) (a .k) (a .counts .now) (a .ranks .now) (w .pick .last .1 .1 .1 .1 .1 .1 .1 .0) (w .pick .last .1 .1 .1 .1 .1 .1 .1 .1 .0)
-    (w .pick .kept .1 .1 .1 .1 .1 .1 .1 .0) (w .pick .kept .1 .1 .1 .1 .1 .1 .1 .1 .0) refl (s .pre .1 .1 .1 .0 h)
+    room-stays (a .stretch .«block_size») (a .k) (a .k) (a .counts .now) (a .ranks .now) (w .pick .last .1 .1 .1 .1 .1 .0) (w .pick .last .1 .1 .1 .1 .1 .1 .0)
+    (w .pick .kept .1 .1 .1 .1 .1 .0) (w .pick .kept .1 .1 .1 .1 .1 .1 .0) refl (s .pre .1 .1 .1 .0 h)
 
 array-share-prefix-bits : tie.Need-array-share-prefix-bits
 array-share-prefix-bits c = search needs
@@ -89,10 +94,10 @@ rank-candidate-requires c κs =
     let w = passed g in
     let s = start w in
     let k = size w in
-    let won : Subset (s .args .block-size) (s .args .k) (take (s .args .k) (w .pick .result)) = rw (is-winner w) (winner-is s) in
-    let counted : 2 ^ s .args .k ≤ length (w .pick .last .1 .1 .1 .1 .1 .1 .1 .1 .1 .0) = omega (arith, s .pre .1 .1 .1 .1, w .pick .kept) in
-    let ordered : 2 ^ s .args .k ≤ length (w .pick .last .1 .1 .1 .1 .1 .1 .1 .1 .1 .1 .0) = omega (arith, s .pre .1 .1 .1 .1, w .pick .kept) in
-    (rw k (s .pre .1 .0), (rw k won, (rw k (s .pre .1 .1 .0), (g .begin .ensures, (rw k (counted, ordered), rw k (filled w .fill-roots .ensures))))))
+    let won : Subset (s .args .stretch .«block_size») (s .args .k) (take (s .args .k) (w .pick .result)) = rw (is-winner w) (winner-is s) in
+    let counted : 2 ^ s .args .k ≤ length (w .pick .last .1 .1 .1 .1 .1 .1 .1 .0) = omega (arith, s .pre .1 .1 .1 .1, w .pick .kept) in
+    let ordered : 2 ^ s .args .k ≤ length (w .pick .last .1 .1 .1 .1 .1 .1 .1 .1 .0) = omega (arith, s .pre .1 .1 .1 .1, w .pick .kept) in
+    (rw k (s .pre .1 .0), (rw k won, (rw k (s .pre .1 .1 .0), (g .begin .ensures, (rw k (counted, ordered), rw k (roots (filled w)))))))
 
 same-length : tie.Need-same-length
 same-length c = filled (passed (c .before .before .before .before .before .before .before .before .before .before .before .before .before .before .before)) .fill-roots .kept .0
@@ -115,30 +120,30 @@ returns c =
     let w = passed (at-rank .before .before .before .before .before .before .before .before .before .before .before) in
     let s = start w in
     let a = s .args in
-    let bit = storedBit (a .stride) (a .words .now) in
+    let bit = stretchBit (a .stretch) (a .words .now) in
     let r = at-rank .rank-candidate in
-    let rank = r .ensures .0 ∙ ap (rankingOf bit (a .n)) (is-winner w) in
+    let rank = r .ensures .0 ∙ ap (rankingOf bit (span (a .stretch))) (is-winner w) in
     record {
       found = λ i. record {
-        «block_size» = a .block-size;
+        «block_size» = a .stretch .«block_size»;
         width = sym (winner-is s .size) i;
         bits = w .pick .ensures .0 i;
         division = rank i .division;
         z = rank i .z;
       };
       counted = r .ensures .1 .0
-          ∙ (λ i. countsOf bit (a .n) (is-winner w i) ++ drop (2 ^ size w i) (w .pick .last .1 .1 .1 .1 .1 .1 .1 .1 .1 .0))
-          ∙ ap (λ (l : List ℕ). countsOf bit (a .n) (winner s) ++ l) (w .pick .ensures .1 .0);
+          ∙ (λ i. countsOf bit (span (a .stretch)) (is-winner w i) ++ drop (2 ^ size w i) (w .pick .last .1 .1 .1 .1 .1 .1 .1 .0))
+          ∙ ap (λ (l : List ℕ). countsOf bit (span (a .stretch)) (winner s) ++ l) (w .pick .ensures .1 .0);
       ordered = r .ensures .1 .1
-          ∙ (λ i. orderOf (countsOf bit (a .n) (is-winner w i)) ++ drop (2 ^ size w i) (w .pick .last .1 .1 .1 .1 .1 .1 .1 .1 .1 .1 .0))
-          ∙ ap (λ (l : List ℕ). orderOf (countsOf bit (a .n) (winner s)) ++ l) (w .pick .ensures .1 .1);
+          ∙ (λ i. orderOf (countsOf bit (span (a .stretch)) (is-winner w i)) ++ drop (2 ^ size w i) (w .pick .last .1 .1 .1 .1 .1 .1 .1 .1 .0))
+          ∙ ap (λ (l : List ℕ). orderOf (countsOf bit (span (a .stretch)) (winner s)) ++ l) (w .pick .ensures .1 .1);
     }
 
 pub find-with-spec : {M : Type 1} → statement M
 find-with-spec =
     tie.close
     (tie.spec
-    cast-fill-roots
+    span-requires
     fill-roots-requires
     pick-requires
     array-share-prefix-bits

@@ -2,7 +2,7 @@
 use mathlib.Core.Path.{_≡_, refl, sym, ap, _∙_}
 use native.Mathlib.Omega.{arith}
 use borrow.Author.Needs.{needs}
-use Rattle.counting.specs.Words.{storedBit}
+use Rattle.counting.specs.Stretch.{span, stretchBit}
 use Rattle.subsets.specs.Subsets.{padded}
 use Rattle.searching.proofs.Walking.{only-winner}
 use Rattle.searching.proofs.pass.pick.Statement.{statement}
@@ -16,8 +16,8 @@ returns c =
     let t = c .before in
     let s = t .before .before .before .before .before .before .before .before in
     let a = s .args in
-    let all : a .k ≡ a .block-size = omega (arith, t .if1 .taken) in
-    (c .first .ensures ∙ ap padded (sym (only-winner (storedBit (a .stride) (a .words .now)) (a .n) (a .block-size) (a .k) all)), (refl, refl))
+    let all : a .k ≡ a .stretch .«block_size» = omega (arith, t .if1 .taken) in
+    (c .first .ensures ∙ ap padded (sym (only-winner (stretchBit (a .stretch) (a .words .now)) (span (a .stretch)) (a .stretch .«block_size») (a .k) all)), (refl, refl))
 
 walk-requires : tie.Need-walk-requires
 walk-requires c κs = search needs

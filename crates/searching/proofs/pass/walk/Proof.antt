@@ -4,7 +4,7 @@ use mathlib.Core.Bool.{true}
 use Prim.Native.Nat.{ℕ, _-_, _^_, _≤_, _<_}
 use native.Mathlib.Omega.{arith}
 use lib.ListN.{length, take, drop, length-take}
-use Rattle.counting.specs.Words.{storedBit}
+use Rattle.counting.specs.Stretch.{span, stretchBit}
 use Rattle.ranking.specs.declared.ranking.Ranking.{Ranking}
 use Rattle.subsets.specs.Choose.{choose}
 use Rattle.subsets.specs.Subsets.{Subset}
@@ -17,16 +17,16 @@ use Rattle.searching.proofs.pass.walk.Statement.{statement}
 use Rattle.searching.proofs.pass.walk.Tie as tie
 
 abbrev Inv-loop : tie.InvT-loop
-Inv-loop words stride n block-size k layer roots counts₀ ranks₀ bins₀ order₀ bits₀ best₀ z₀ counts ranks bins order bits best z =
-    Walked (storedBit stride words) n block-size k bits best z
+Inv-loop words stretch k layer roots counts₀ ranks₀ bins₀ order₀ bits₀ best₀ z₀ counts ranks bins order bits best z =
+    Walked (stretchBit stretch words) (span stretch) (stretch .«block_size») k bits best z
     × (length bins ≡ length bins₀) × (drop (2 ^ k) bins ≡ drop (2 ^ k) bins₀)
     × (length order ≡ length order₀) × (drop (2 ^ k) order ≡ drop (2 ^ k) order₀)
     × (length counts ≡ length counts₀) × (length ranks ≡ length ranks₀)
-    × Ready (storedBit stride words) n block-size layer (take k bits) counts ranks
+    × Ready (stretchBit stretch words) (span stretch) (stretch .«block_size») layer (take k bits) counts ranks
 
 abbrev μ-loop : tie.MeasureT-loop
-μ-loop words stride n block-size k layer roots counts₀ ranks₀ bins₀ order₀ bits₀ best₀ z₀ counts ranks bins order bits best z =
-    choose block-size k - rankOf block-size (take k bits)
+μ-loop words stretch k layer roots counts₀ ranks₀ bins₀ order₀ bits₀ best₀ z₀ counts ranks bins order bits best z =
+    choose (stretch .«block_size») k - rankOf (stretch .«block_size») (take k bits)
 
 -- ---- the places: the first subset made, its run begun, it ranked, the loop's head, a step made, what it came to ranked
 
@@ -53,18 +53,18 @@ stepped d = d .before .before .before .before .before .before .before .before .b
 
 -- the sample that is searched
 abbrev bit : tie.Start Inv-loop μ-loop → ℕ → ℕ → ℕ
-bit s = storedBit (s .args .stride) (s .args .words .now)
+bit s = stretchBit (s .args .stretch) (s .args .words .now)
 
 -- the first subset
-is-first : (d : tie.After-first Inv-loop μ-loop) → Subset (start d .args .block-size) (start d .args .k) (take (start d .args .k) (d .first .result))
+is-first : (d : tie.After-first Inv-loop μ-loop) → Subset (start d .args .stretch .«block_size») (start d .args .k) (take (start d .args .k) (d .first .result))
 is-first d =
     let s = start d in
-    rw (first-front (bit s) (s .args .n) (s .args .block-size) (s .args .k) (s .pre .0 .chosen) (s .pre .0 .width) (d .first .result) (d .first .ensures))
-    (numbers-subset (s .args .block-size) (s .args .k) (s .pre .0 .chosen))
+    rw (first-front (bit s) (span (s .args .stretch)) (s .args .stretch .«block_size») (s .args .k) (s .pre .0 .chosen) (s .pre .0 .width) (d .first .result) (d .first .ensures))
+    (numbers-subset (s .args .stretch .«block_size») (s .args .k) (s .pre .0 .chosen))
 
 -- the next
 is-next : (d : tie.After-step Inv-loop μ-loop) → d .step .result ≡ true
-    → let s = start (entry (head d)) in Subset (s .args .block-size) (s .args .k) (take (s .args .k) (d .step .last .0))
+    → let s = start (entry (head d)) in Subset (s .args .stretch .«block_size») (s .args .k) (take (s .args .k) (d .step .last .0))
 is-next d e = d .step .ensures .0 .next e .subset
 
 first-requires : tie.Need-first-requires Inv-loop μ-loop
@@ -106,7 +106,7 @@ loop-holds c =
     let s = start d in
     let a = s .args in
     let r = at-rank .rank-candidate in (
-      begun (bit s) (a .n) (a .block-size) (a .k) (s .pre .0 .chosen) (s .pre .0 .width) (d .first .result) (r .result .z) (d .first .ensures) (ap (λ (q : Ranking). q .z) (r .ensures .0)),
+      begun (bit s) (span (a .stretch)) (a .stretch .«block_size») (a .k) (s .pre .0 .chosen) (s .pre .0 .width) (d .first .result) (r .result .z) (d .first .ensures) (ap (λ (q : Ranking). q .z) (r .ensures .0)),
       refl,
       refl,
       refl,
@@ -148,13 +148,13 @@ rank-candidate-requires-2 c κs =
 -- the step makes the measure fall
 less : (d : tie.After-step Inv-loop μ-loop) → d .step .result ≡ true
     → let s = start (entry (head d)) in
-    choose (s .args .block-size) (s .args .k) - rankOf (s .args .block-size) (take (s .args .k) (d .step .last .0))
-    < choose (s .args .block-size) (s .args .k) - rankOf (s .args .block-size) (take (s .args .k) (head d .loop .bits))
+    choose (s .args .stretch .«block_size») (s .args .k) - rankOf (s .args .stretch .«block_size») (take (s .args .k) (d .step .last .0))
+    < choose (s .args .stretch .«block_size») (s .args .k) - rankOf (s .args .stretch .«block_size») (take (s .args .k) (head d .loop .bits))
 less d e =
     let l = head d in
     let s = start (entry l) in
     let a = s .args in
-    falls (bit s) (a .n) (a .block-size) (a .k) (s .pre .0 .chosen) (s .pre .0 .width) (l .loop .bits) (l .loop .best) (d .step .last .0) (l .loop .z) (l .loop .inv .0) (d .step .kept .0)
+    falls (bit s) (span (a .stretch)) (a .stretch .«block_size») (a .k) (s .pre .0 .chosen) (s .pre .0 .width) (l .loop .bits) (l .loop .best) (d .step .last .0) (l .loop .z) (l .loop .inv .0) (d .step .kept .0)
     (d .step .result) (d .step .ensures .0) e
 
 -- the buffers past 2 ^ k entries stay as they were where the loop began, and the run stands
@@ -162,14 +162,14 @@ buffers : (d : tie.After-rank-candidate2 Inv-loop μ-loop) → stepped d .step .
     → let l = head (stepped d) in
     let s = start (entry l) in
     let k = s .args .k in
-    let was = ranked l .rank-candidate .last .1 .1 .1 .1 .1 .1 .1 .1 .1 in
-    let is = d .rank-candidate2 .last .1 .1 .1 .1 .1 .1 .1 .1 .1 in
-    let began = run (ranked l) .begin .last .1 .1 .1 .1 .1 .1 in
-    let kept = stepped d .step .last .1 .1 .1 .1 .1 .1 .1 in
+    let was = ranked l .rank-candidate .last .1 .1 .1 .1 .1 .1 .1 in
+    let is = d .rank-candidate2 .last .1 .1 .1 .1 .1 .1 .1 in
+    let began = run (ranked l) .begin .last .1 .1 .1 .1 in
+    let kept = stepped d .step .last .1 .1 .1 .1 .1 in
     (length (is .0) ≡ length (was .0)) × (drop (2 ^ k) (is .0) ≡ drop (2 ^ k) (was .0))
     × (length (is .1 .0) ≡ length (was .1 .0)) × (drop (2 ^ k) (is .1 .0) ≡ drop (2 ^ k) (was .1 .0))
     × (length (kept .0) ≡ length (began .0)) × (length (kept .1 .0) ≡ length (began .1 .0))
-    × Ready (bit s) (s .args .n) (s .args .block-size) (s .args .layer .now) (take k (stepped d .step .last .0)) (kept .0) (kept .1 .0)
+    × Ready (bit s) (span (s .args .stretch)) (s .args .stretch .«block_size») (s .args .layer .now) (take k (stepped d .step .last .0)) (kept .0) (kept .1 .0)
 buffers d e =
     let l = head (stepped d) in
     let s = start (entry l) in
@@ -178,12 +178,12 @@ buffers d e =
     let g = stepped d .step in
     let bits = take (a .k) (g .last .0) in
     let size = is-next (stepped d) e .size in (
-      r .kept .1 .1 .1 .1 .1 .1 .1 .1 .1 .0 ∙ l .loop .inv .1,
-      counts-rest (bit s) (a .n) (a .k) bits (l .loop .bins) (r .last .1 .1 .1 .1 .1 .1 .1 .1 .1 .0) size (r .ensures .1 .0) ∙ l .loop .inv .2,
-      r .kept .1 .1 .1 .1 .1 .1 .1 .1 .1 .1 .0 ∙ l .loop .inv .3,
-      order-rest (bit s) (a .n) (a .k) bits (l .loop .order) (r .last .1 .1 .1 .1 .1 .1 .1 .1 .1 .1 .0) size (r .ensures .1 .1) ∙ l .loop .inv .4,
-      g .kept .1 .1 .1 .1 .1 .1 .1 .0 ∙ l .loop .inv .5,
-      g .kept .1 .1 .1 .1 .1 .1 .1 .1 .0 ∙ l .loop .inv .6,
+      r .kept .1 .1 .1 .1 .1 .1 .1 .0 ∙ l .loop .inv .1,
+      counts-rest (bit s) (span (a .stretch)) (a .k) bits (l .loop .bins) (r .last .1 .1 .1 .1 .1 .1 .1 .0) size (r .ensures .1 .0) ∙ l .loop .inv .2,
+      r .kept .1 .1 .1 .1 .1 .1 .1 .1 .0 ∙ l .loop .inv .3,
+      order-rest (bit s) (span (a .stretch)) (a .k) bits (l .loop .order) (r .last .1 .1 .1 .1 .1 .1 .1 .1 .0) size (r .ensures .1 .1) ∙ l .loop .inv .4,
+      g .kept .1 .1 .1 .1 .1 .0 ∙ l .loop .inv .5,
+      g .kept .1 .1 .1 .1 .1 .1 .0 ∙ l .loop .inv .6,
       g .ensures .1 e,
     )
 
@@ -203,7 +203,7 @@ loop-again c =
     let a = s .args in
     let r = d .rank-candidate2 in
     let g = stepped d .step in (
-      takes (bit s) (a .n) (a .block-size) (a .k) (s .pre .0 .chosen) (s .pre .0 .width) (l .loop .bits) (l .loop .best) (g .last .0) (l .loop .z) (l .loop .inv .0)
+      takes (bit s) (span (a .stretch)) (a .stretch .«block_size») (a .k) (s .pre .0 .chosen) (s .pre .0 .width) (l .loop .bits) (l .loop .best) (g .last .0) (l .loop .z) (l .loop .inv .0)
           (g .kept .0) (g .result) (g .ensures .0) e (r .result .z) (ap (λ (q : Ranking). q .z) (r .ensures .0)) (holds _ (c .if2 .taken)),
       buffers d e .0,
       buffers d e .1,
@@ -226,7 +226,7 @@ loop-again-2 c =
     let a = s .args in
     let r = d .rank-candidate2 in
     let g = stepped d .step in (
-      keeps (bit s) (a .n) (a .block-size) (a .k) (s .pre .0 .chosen) (s .pre .0 .width) (l .loop .bits) (l .loop .best) (g .last .0) (l .loop .z) (l .loop .inv .0)
+      keeps (bit s) (span (a .stretch)) (a .stretch .«block_size») (a .k) (s .pre .0 .chosen) (s .pre .0 .width) (l .loop .bits) (l .loop .best) (g .last .0) (l .loop .z) (l .loop .inv .0)
           (g .kept .0) (g .result) (g .ensures .0) e (r .result .z) (ap (λ (q : Ranking). q .z) (r .ensures .0)) (fails _ (c .if2 .left)),
       buffers d e .0,
       buffers d e .1,
@@ -241,19 +241,19 @@ same-length : tie.Need-same-length Inv-loop μ-loop
 same-length c =
     let d = c .before .before .before .before .before .before in
     let l = head d in
-    d .step .kept .1 .1 .1 .1 .1 .1 .1 .0 ∙ l .loop .inv .5 ∙ run (ranked l) .begin .kept .1 .1 .1 .1 .1 .1 .0
+    d .step .kept .1 .1 .1 .1 .1 .0 ∙ l .loop .inv .5 ∙ run (ranked l) .begin .kept .1 .1 .1 .1 .0
 
 same-length-2 : tie.Need-same-length-2 Inv-loop μ-loop
 same-length-2 c =
     let d = c .before .before .before .before .before .before in
     let l = head d in
-    d .step .kept .1 .1 .1 .1 .1 .1 .1 .1 .0 ∙ l .loop .inv .6 ∙ run (ranked l) .begin .kept .1 .1 .1 .1 .1 .1 .1 .0
+    d .step .kept .1 .1 .1 .1 .1 .1 .0 ∙ l .loop .inv .6 ∙ run (ranked l) .begin .kept .1 .1 .1 .1 .1 .0
 
 same-length-3 : tie.Need-same-length-3 Inv-loop μ-loop
-same-length-3 c = let l = head (c .before .before .before .before .before .before) in l .loop .inv .1 ∙ ranked l .rank-candidate .kept .1 .1 .1 .1 .1 .1 .1 .1 .1 .0
+same-length-3 c = let l = head (c .before .before .before .before .before .before) in l .loop .inv .1 ∙ ranked l .rank-candidate .kept .1 .1 .1 .1 .1 .1 .1 .0
 
 same-length-4 : tie.Need-same-length-4 Inv-loop μ-loop
-same-length-4 c = let l = head (c .before .before .before .before .before .before) in l .loop .inv .3 ∙ ranked l .rank-candidate .kept .1 .1 .1 .1 .1 .1 .1 .1 .1 .1 .0
+same-length-4 c = let l = head (c .before .before .before .before .before .before) in l .loop .inv .3 ∙ ranked l .rank-candidate .kept .1 .1 .1 .1 .1 .1 .1 .1 .0
 
 returns : tie.Need-returns Inv-loop μ-loop
 returns c =
@@ -264,11 +264,11 @@ returns c =
     let r = ranked l .rank-candidate in
     let bits = take (a .k) (entry l .first .result) in
     let size = is-first (entry l) .size in (
-      ends (bit s) (a .n) (a .block-size) (a .k) (s .pre .0 .chosen) (s .pre .0 .width) (l .loop .bits) (l .loop .best) (d .step .last .0) (l .loop .z) (l .loop .inv .0)
+      ends (bit s) (span (a .stretch)) (a .stretch .«block_size») (a .k) (s .pre .0 .chosen) (s .pre .0 .width) (l .loop .bits) (l .loop .best) (d .step .last .0) (l .loop .z) (l .loop .inv .0)
           (d .step .kept .0) (d .step .result) (d .step .ensures .0) (c .if1 .left),
       (
-        l .loop .inv .2 ∙ counts-rest (bit s) (a .n) (a .k) bits (a .bins .now) (r .last .1 .1 .1 .1 .1 .1 .1 .1 .1 .0) size (r .ensures .1 .0),
-        l .loop .inv .4 ∙ order-rest (bit s) (a .n) (a .k) bits (a .order .now) (r .last .1 .1 .1 .1 .1 .1 .1 .1 .1 .1 .0) size (r .ensures .1 .1),
+        l .loop .inv .2 ∙ counts-rest (bit s) (span (a .stretch)) (a .k) bits (a .bins .now) (r .last .1 .1 .1 .1 .1 .1 .1 .0) size (r .ensures .1 .0),
+        l .loop .inv .4 ∙ order-rest (bit s) (span (a .stretch)) (a .k) bits (a .order .now) (r .last .1 .1 .1 .1 .1 .1 .1 .1 .0) size (r .ensures .1 .1),
       ),
     )
 

@@ -1,10 +1,13 @@
 -- `search::brute_force` meets its contract: past the refusals the layers lead to the winner.
-use mathlib.Core.Path.{_≡_, refl, sym, ap, _∙_}
+use mathlib.Core.Path.{_≡_, refl, sym, ap, subst, _∙_}
 use native.Mathlib.Omega.{arith}
-use lib.ListN.{length}
+use lib.ListN.{length, drop}
 use borrow.Author.Needs.{needs}
+use Rattle.counting.specs.declared.stretch.Stretch.{Stretch}
 use Rattle.counting.proofs.Accepted.{valid-facts}
+use Rattle.layers.specs.Size.{storeSize}
 use Rattle.searching.specs.Finding.{refusedWith}
+use Rattle.searching.specs.Pass.{Suffice}
 use Rattle.searching.specs.Refusal.{layeredRefusal}
 use Rattle.searching.proofs.Refusing.{LayeredFree, layered-free, searchable, search-refused, search-found}
 use Rattle.searching.proofs.search.brute_force.Statement.{statement}
@@ -22,7 +25,7 @@ returns c =
     let a = d .before .before .before .before .before .before .args in
     let is = d .layered-refusal .ensures in
     record {
-      search = search-refused _ (a .sampler) (a .words .now) (a .k) (a .bins .now) (a .order .now) (c .refused .result) (λ z. c .before .if1 .taken (is ∙ z))
+      search = search-refused _ _ _ _ (a .k) (a .bins .now) (a .order .now) (c .refused .result) (λ z. c .before .if1 .taken (is ∙ z))
           (c .refused .ensures ∙ ap refusedWith is);
       kept = (refl, refl);
     }
@@ -33,27 +36,27 @@ abbrev start : tie.Else1 → tie.Start
 start e = e .before .before .before .before .before .before .before
 
 none : (e : tie.Else1) → let a = start e .args in
-    layeredRefusal (a .sampler) (length (a .words .now)) (a .k) (length (a .first .now)) (length (a .second .now)) (length (a .bins .now)) (length (a .order .now)) ≡ 0
+    layeredRefusal (a .sampler) (length (a .words .now)) (a .first) (a .end) (a .k) (length (a .lower .now)) (length (a .upper .now)) (length (a .bins .now)) (length (a .order .now)) ≡ 0
 none e = sym (e .before .layered-refusal .ensures) ∙ e .if1 .left
 
 free : (e : tie.Else1) → let a = start e .args in
-    LayeredFree (a .sampler) (length (a .words .now)) (a .k) (length (a .first .now)) (length (a .second .now)) (length (a .bins .now)) (length (a .order .now))
+    LayeredFree (a .sampler) (length (a .words .now)) (a .first) (a .end) (a .k) (length (a .lower .now)) (length (a .upper .now)) (length (a .bins .now)) (length (a .order .now))
 free e =
     let a = start e .args in
-    layered-free (a .sampler) (length (a .words .now)) (a .k) (length (a .first .now)) (length (a .second .now)) (length (a .bins .now)) (length (a .order .now)) (none e)
+    layered-free (a .sampler) (length (a .words .now)) (a .first) (a .end) (a .k) (length (a .lower .now)) (length (a .upper .now)) (length (a .bins .now)) (length (a .order .now)) (none e)
 
-div-n : tie.Need-div-n
-div-n c = omega (arith, valid-facts _ (free (c .before) .search .usable .valid))
-
-div-find-layered : tie.Need-div-find-layered
-div-find-layered c = omega (arith, valid-facts _ (free (c .before) .search .usable .valid))
+stretch-of-requires : tie.Need-stretch-of-requires
+stretch-of-requires c κs = omega (arith, valid-facts _ (free c .search .usable .valid))
 
 find-layered-requires : tie.Need-find-layered-requires
 find-layered-requires c κs =
     let e = c .before .before .before .before .before in
     let a = start e .args in
     let f = free e in
-    (searchable (a .sampler) (length (a .words .now)) (a .k) (f .search), (f .stores, f .room))
+    let x = c .before .before .before .before .stretch-of in (
+      searchable (a .sampler) (length (a .words .now)) (a .first) (a .end) (a .k) (x .result) (x .ensures) (f .search),
+      (subst (λ (y : Stretch). Suffice (y .«block_size») (a .k) (length (a .lower .now)) (length (a .upper .now))) (sym (x .ensures)) (f .stores), f .room),
+    )
 
 same-length : tie.Need-same-length
 same-length c = search needs
@@ -70,11 +73,16 @@ same-length-4 c = search needs
 returns-2 : tie.Need-returns-2
 returns-2 c =
     let at-find = c .before .before .before .before .before .before .before .before in
-    let e = at-find .before .before .before .before .before .before in
+    let at-stretch = at-find .before .before .before .before .before in
+    let e = at-stretch .before in
+    let x = at-stretch .stretch-of in
+    let found = at-find .find-layered in
     let a = start e .args in
     record {
-      search = search-found _ (a .sampler) (a .words .now) (a .k) (a .bins .now) (a .order .now) (at-find .find-layered .result) _ _ (none e) (at-find .find-layered .ensures .0);
-      kept = rw (none e) (at-find .find-layered .ensures .1);
+      search = search-found _ (a .sampler) (a .words .now) (a .first) (a .end) (a .k) (x .result) (a .bins .now) (a .order .now) (found .result) _ _ (x .ensures) (none e) (found .ensures .0);
+      kept = rw (none e) (subst (λ (y : Stretch).
+          (drop (storeSize (y .«block_size») (a .k)) (found .last .1 .1 .1 .0) ≡ drop (storeSize (y .«block_size») (a .k)) (a .lower .now))
+          × (drop (storeSize (y .«block_size») (a .k)) (found .last .1 .1 .1 .1 .0) ≡ drop (storeSize (y .«block_size») (a .k)) (a .upper .now))) (x .ensures) (found .ensures .1));
     }
 
 pub brute-force-spec : {M : Type 1} → statement M
@@ -84,8 +92,7 @@ brute-force-spec =
     layered-refusal-requires
     refused-requires
     returns
-    div-n
-    div-find-layered
+    stretch-of-requires
     find-layered-requires
     same-length
     same-length-2

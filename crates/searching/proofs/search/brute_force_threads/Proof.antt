@@ -21,7 +21,7 @@ returns c =
     let d = c .before .before in
     let a = d .before .before .before .before .args in
     let is = d .direct-refusal .ensures in
-    search-refused _ (a .sampler) (a .words .now) (a .k) (a .bins .now) (a .order .now) (c .refused .result) (λ z. c .before .if1 .taken (is ∙ z))
+    search-refused _ _ _ _ (a .k) (a .bins .now) (a .order .now) (c .refused .result) (λ z. c .before .if1 .taken (is ∙ z))
     (c .refused .ensures ∙ ap refusedWith is)
 
 -- ---- past the refusals
@@ -29,17 +29,14 @@ returns c =
 abbrev start : tie.Else1 → tie.Start
 start e = e .before .before .before .before .before
 
-none : (e : tie.Else1) → let a = start e .args in directRefusal (a .sampler) (length (a .words .now)) (a .k) (length (a .bins .now)) (length (a .order .now)) ≡ 0
+none : (e : tie.Else1) → let a = start e .args in directRefusal (a .sampler) (length (a .words .now)) (a .first) (a .end) (a .k) (length (a .bins .now)) (length (a .order .now)) ≡ 0
 none e = sym (e .before .direct-refusal .ensures) ∙ e .if1 .left
 
-free : (e : tie.Else1) → let a = start e .args in DirectFree (a .sampler) (length (a .words .now)) (a .k) (length (a .bins .now)) (length (a .order .now))
-free e = let a = start e .args in direct-free (a .sampler) (length (a .words .now)) (a .k) (length (a .bins .now)) (length (a .order .now)) (none e)
+free : (e : tie.Else1) → let a = start e .args in DirectFree (a .sampler) (length (a .words .now)) (a .first) (a .end) (a .k) (length (a .bins .now)) (length (a .order .now))
+free e = let a = start e .args in direct-free (a .sampler) (length (a .words .now)) (a .first) (a .end) (a .k) (length (a .bins .now)) (length (a .order .now)) (none e)
 
-div-n : tie.Need-div-n
-div-n c = omega (arith, valid-facts _ (free (c .before) .search .usable .valid))
-
-div-find : tie.Need-div-find
-div-find c = omega (arith, valid-facts _ (free (c .before) .search .usable .valid))
+stretch-of-requires : tie.Need-stretch-of-requires
+stretch-of-requires c κs = omega (arith, valid-facts _ (free c .search .usable .valid))
 
 slice-aggregate-find : tie.Need-slice-aggregate-find
 slice-aggregate-find c = search needs
@@ -55,7 +52,8 @@ find-requires c κs =
     let e = c .before .before .before .before .before .before in
     let a = start e .args in
     let f = free e in
-    (searchable (a .sampler) (length (a .words .now)) (a .k) (f .search), (record { holds = λ h. absurd (omega arith) }, (λ h. absurd (omega arith), f .room)))
+    let x = c .before .before .before .before .before .stretch-of in
+    (searchable (a .sampler) (length (a .words .now)) (a .first) (a .end) (a .k) (x .result) (x .ensures) (f .search), (record { holds = λ h. absurd (omega arith) }, (λ h. absurd (omega arith), f .room)))
 
 same-length : tie.Need-same-length
 same-length c = search needs
@@ -66,9 +64,11 @@ same-length-2 c = search needs
 returns-2 : tie.Need-returns-2
 returns-2 c =
     let at-find = c .before .before .before .before .before .before in
-    let e = at-find .before .before .before .before .before .before .before in
+    let at-stretch = at-find .before .before .before .before .before .before in
+    let e = at-stretch .before in
     let a = start e .args in
-    search-found _ (a .sampler) (a .words .now) (a .k) (a .bins .now) (a .order .now) (at-find .find .result) _ _ (none e) (at-find .find .ensures)
+    let x = at-stretch .stretch-of in
+    search-found _ (a .sampler) (a .words .now) (a .first) (a .end) (a .k) (x .result) (a .bins .now) (a .order .now) (at-find .find .result) _ _ (x .ensures) (none e) (at-find .find .ensures)
 
 pub brute-force-threads-spec : {M : Type 1} → statement M
 brute-force-threads-spec =
@@ -77,8 +77,7 @@ brute-force-threads-spec =
     direct-refusal-requires
     refused-requires
     returns
-    div-n
-    div-find
+    stretch-of-requires
     slice-aggregate-find
     slice-aggregate-find-2
     slice-aggregate-find-3

@@ -15,15 +15,15 @@ unfolding directRefusal
 returns c =
     let a = c .before .before .args in
     let is = c .before .search-refusal .ensures in
-    is ∙ or-first (searchRefusal (a .sampler) (a .words) (a .k)) (bufferRefusal (a .k) (a .bins) (a .order)) (λ z. c .if1 .taken (is ∙ z))
+    is ∙ or-first (searchRefusal (a .sampler) (a .words) (a .first) (a .end) (a .k)) (bufferRefusal (a .k) (a .bins) (a .order)) (λ z. c .if1 .taken (is ∙ z))
 
-none : (e : tie.Else1) → let a = e .before .before .args in searchRefusal (a .sampler) (a .words) (a .k) ≡ 0
+none : (e : tie.Else1) → let a = e .before .before .args in searchRefusal (a .sampler) (a .words) (a .first) (a .end) (a .k) ≡ 0
 none e = sym (e .before .search-refusal .ensures) ∙ e .if1 .left
 
 buffer-refusal-requires : tie.Need-buffer-refusal-requires
 buffer-refusal-requires c κs =
     let a = c .before .before .args in
-    omega (arith, search-free (a .sampler) (a .words) (a .k) (none c) .width)
+    omega (arith, search-free (a .sampler) (a .words) (a .first) (a .end) (a .k) (none c) .width)
 
 returns-2 : tie.Need-returns-2
 unfolding directRefusal

@@ -19,14 +19,14 @@ returns c =
     let a = c .before .before .args in
     let is = c .before .search-refusal .ensures in
     is
-    ∙ or-first (searchRefusal (a .sampler) (a .words) (a .k)) (orElse (storeRefusal (a .sampler .«block_size») (a .k) (a .first) (a .second)) (bufferRefusal (a .k) (a .bins) (a .order)))
+    ∙ or-first (searchRefusal (a .sampler) (a .words) (a .first) (a .end) (a .k)) (orElse (storeRefusal (a .sampler .«block_size») (a .k) (a .lower) (a .upper)) (bufferRefusal (a .k) (a .bins) (a .order)))
     (λ z. c .if1 .taken (is ∙ z))
 
-none : (e : tie.Else1) → let a = e .before .before .args in searchRefusal (a .sampler) (a .words) (a .k) ≡ 0
+none : (e : tie.Else1) → let a = e .before .before .args in searchRefusal (a .sampler) (a .words) (a .first) (a .end) (a .k) ≡ 0
 none e = sym (e .before .search-refusal .ensures) ∙ e .if1 .left
 
-free : (e : tie.Else1) → let a = e .before .before .args in SearchFree (a .sampler) (a .words) (a .k)
-free e = let a = e .before .before .args in search-free (a .sampler) (a .words) (a .k) (none e)
+free : (e : tie.Else1) → let a = e .before .before .args in SearchFree (a .sampler) (a .words) (a .first) (a .end) (a .k)
+free e = let a = e .before .before .args in search-free (a .sampler) (a .words) (a .first) (a .end) (a .k) (none e)
 
 store-refusal-requires : tie.Need-store-refusal-requires
 store-refusal-requires c κs =
@@ -39,7 +39,7 @@ unfolding layeredRefusal
 returns-2 c =
     let a = c .before .before .before .before .args in
     let is = c .before .store-refusal .ensures in
-    is ∙ or-first (storeRefusal (a .sampler .«block_size») (a .k) (a .first) (a .second)) (bufferRefusal (a .k) (a .bins) (a .order)) (λ z. c .if2 .taken (is ∙ z))
+    is ∙ or-first (storeRefusal (a .sampler .«block_size») (a .k) (a .lower) (a .upper)) (bufferRefusal (a .k) (a .bins) (a .order)) (λ z. c .if2 .taken (is ∙ z))
     ∙ or-next _ _ (none (c .before .before))
 
 buffer-refusal-requires : tie.Need-buffer-refusal-requires

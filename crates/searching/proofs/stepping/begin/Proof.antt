@@ -14,8 +14,8 @@ begin-run-requires c κs =
     let t = c .before .before in
     let s = start (t .before) in
     let some : 0 < length (s .args .layer .now) = omega (arith, t .if1 .taken) in
-    let small : s .args .block-size < 4294967296 = omega (arith, s .pre .0 .size) in
-    ((s .pre .0 .some, s .pre .0 .width, small), (s .pre .1 .0, ((s .pre .0 .rows, s .pre .0 .blocks), (s .pre .1 .1 .0 .holds some .few, s .pre .1 .1 .1 some))))
+    let small : s .args .stretch .«block_size» < 4294967296 = omega (arith, s .pre .0 .size) in
+    ((s .pre .0 .some, s .pre .0 .width, small), (s .pre .1 .0, (s .pre .0 .rows, (s .pre .1 .1 .0 .holds some .few, s .pre .1 .1 .1 some))))
 
 same-length : tie.Need-same-length
 same-length c = search needs
@@ -28,8 +28,8 @@ returns c =
     let b = c .before .before .before .before in
     let s = start (b .before .before .before .before) in record {
       space = λ h. record {
-        bits = omega (arith, s .pre .1 .1 .1 h .bits, b .begin-run .kept .1 .1 .1 .1 .1 .0);
-        chosen = omega (arith, s .pre .1 .1 .1 h .chosen, b .begin-run .kept .1 .1 .1 .1 .1 .1 .0);
+        bits = omega (arith, s .pre .1 .1 .1 h .bits, b .begin-run .kept .1 .1 .1 .0);
+        chosen = omega (arith, s .pre .1 .1 .1 h .chosen, b .begin-run .kept .1 .1 .1 .1 .0);
       };
       run = λ _. b .begin-run .ensures;
     }

@@ -32,16 +32,16 @@ advance-requires c κs =
     let s = start (e .before) in
     let a = s .args in
     let some : 0 < length (a .layer .now) = omega (arith, e .if1 .left) in
-    let small : a .block-size < 4294967296 = omega (arith, s .pre .0 .size) in
+    let small : a .stretch .«block_size» < 4294967296 = omega (arith, s .pre .0 .size) in
     let size = s .pre .1 .0 .size in (
       (s .pre .0 .some, s .pre .0 .width, small),
       (
         s .pre .1 .0,
         (
-          (s .pre .0 .rows, s .pre .0 .blocks),
+          s .pre .0 .rows,
           (
             s .pre .1 .1 .0 .holds some .few,
-            (subst (λ (m : ℕ). RunRoom (a .block-size) m (a .counts .now) (a .ranks .now)) size (s .pre .1 .1 .1 .space some), s .pre .1 .1 .1 .run some),
+            (subst (λ (m : ℕ). RunRoom (a .stretch .«block_size») m (a .counts .now) (a .ranks .now)) size (s .pre .1 .1 .1 .space some), s .pre .1 .1 .1 .run some),
           ),
         ),
       ),
@@ -65,8 +65,8 @@ returns-2 c =
       r .ensures .0,
       λ e. record {
         space = λ h.
-            room-stays (a .block-size) (length (take (a .k) (a .bits .now))) (length (take (a .k) (r .last .0))) (a .counts .now) (a .ranks .now)
-            (r .last .1 .1 .1 .1 .1 .1 .0) (r .last .1 .1 .1 .1 .1 .1 .1 .0) (r .kept .1 .1 .1 .1 .1 .1 .0) (r .kept .1 .1 .1 .1 .1 .1 .1 .0)
+            room-stays (a .stretch .«block_size») (length (take (a .k) (a .bits .now))) (length (take (a .k) (r .last .0))) (a .counts .now) (a .ranks .now)
+            (r .last .1 .1 .1 .1 .0) (r .last .1 .1 .1 .1 .1 .0) (r .kept .1 .1 .1 .1 .0) (r .kept .1 .1 .1 .1 .1 .0)
             (r .ensures .0 .next e .subset .size ∙ sym (s .pre .1 .0 .size)) (s .pre .1 .1 .1 .space h);
         run = λ _. r .ensures .1 e;
       },

@@ -29,14 +29,14 @@ at-most-requires-3 c κs = search needs
 at-most-requires-4 : tie.Need-at-most-requires-4
 at-most-requires-4 c κs = search needs
 
-array-borrow-prefix-first : tie.Need-array-borrow-prefix-first
-array-borrow-prefix-first c = search needs
+array-borrow-prefix-lower : tie.Need-array-borrow-prefix-lower
+array-borrow-prefix-lower c = search needs
 
 slice-aggregate-layered-with : tie.Need-slice-aggregate-layered-with
 slice-aggregate-layered-with c = simp length-take (omega arith)
 
-array-borrow-prefix-second : tie.Need-array-borrow-prefix-second
-array-borrow-prefix-second c = search needs
+array-borrow-prefix-upper : tie.Need-array-borrow-prefix-upper
+array-borrow-prefix-upper c = search needs
 
 slice-aggregate-layered-with-2 : tie.Need-slice-aggregate-layered-with-2
 slice-aggregate-layered-with-2 c = simp length-take (omega arith)
@@ -71,9 +71,9 @@ layered-spec =
     at-most-requires-2
     at-most-requires-3
     at-most-requires-4
-    array-borrow-prefix-first
+    array-borrow-prefix-lower
     slice-aggregate-layered-with
-    array-borrow-prefix-second
+    array-borrow-prefix-upper
     slice-aggregate-layered-with-2
     array-borrow-prefix-bins
     slice-aggregate-layered-with-3

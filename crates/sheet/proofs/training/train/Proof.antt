@@ -1,11 +1,12 @@
--- `training::train` meets its contract: a start, one feed and a search are a session of the claim.
+-- `training::train` meets its contract: a start and one feed are an acquisition, and the claim holds of the search of all its blocks.
 use borrow.Author.Needs.{needs}
-use mathlib.Core.Path.{_≡_, sym, ap, _∙_}
+use mathlib.Core.Path.{_≡_, sym, ap, subst, _∙_}
 use mathlib.Core.List.{List, [], _∷_}
 use Prim.Native.Nat.{ℕ}
 use lib.ListN.{length}
 use Rattle.counting.specs.declared.sampling.Started.{Started}
-use Rattle.searching.specs.Claim.{Session, fresh, next}
+use Rattle.searching.specs.Claim.{Acquisition, fresh, next}
+use Rattle.searching.specs.Search.{DirectSearch}
 use Rattle.sheet.proofs.Searched.{started-free, training-found}
 use Rattle.sheet.proofs.training.train.Statement.{statement}
 use Rattle.sheet.proofs.training.train.Tie as tie
@@ -25,6 +26,9 @@ slice-aggregate-feed c = search needs
 feed-requires : tie.Need-feed-requires
 feed-requires c κs = search needs
 
+blocks-requires : tie.Need-blocks-requires
+blocks-requires c κs = search needs
+
 slice-aggregate-brute-force-threads : tie.Need-slice-aggregate-brute-force-threads
 slice-aggregate-brute-force-threads c = search needs
 
@@ -40,18 +44,21 @@ same-length-2 c = search needs
 returns : tie.Need-returns
 returns c =
     let search = c .before .before .before .before .before in
-    let fed = search .before .before .before .before .before in
+    let n = search .before .before .before .before .blocks2 in
+    let fed = search .before .before .before .before .before .before in
     let begun = fed .before .before .before in
     let entry = begun .before .before .before .before .before .before in
     let a = entry .args in
     let ws : List ℕ = begun .before .before .room .result in
     let first : begun .start .result .refusal ≡ 0 = ap (λ (r : Started). r .refusal) (begun .start .ensures .0) ∙ started-free (a .block-size) (length ws) (entry .pre .valid) in
-    let session : Session (a .block-size) ws (a .training .now ∷ []) (fed .feed .result .refusal ∷ []) (fed .feed .result .sampler) (fed .feed .last .1 .0) =
+    let acquired : Acquisition (a .block-size) ws (a .training .now ∷ []) (fed .feed .result .refusal ∷ []) (fed .feed .result .sampler) (fed .feed .last .1 .0) =
     next (fresh (begun .start .result) (begun .start .last .1 .0) (begun .start .ensures .0) (begun .start .ensures .1) first)
     (a .training .now) (fed .feed .result) (fed .feed .last .1 .0) (fed .feed .ensures .0) (fed .feed .ensures .1) in
-    training-found (a .block-size) (a .k) ws (a .training .now) (fed .feed .result .refusal ∷ []) (fed .feed .result .sampler) (fed .feed .last .1 .0) session
+    training-found (a .block-size) (a .k) ws (a .training .now) (fed .feed .result .refusal ∷ []) (fed .feed .result .sampler) (fed .feed .last .1 .0) acquired
     (sym (begun .before .before .room .ensures)) (a .bins .now) (a .order .now) (entry .pre)
-    (search .brute-force-threads .result) (search .brute-force-threads .last .1 .1 .1 .0) (search .brute-force-threads .last .1 .1 .1 .1 .0) (search .brute-force-threads .ensures) .1
+    (search .brute-force-threads .result) (search .brute-force-threads .last .1 .1 .1 .1 .1 .0) (search .brute-force-threads .last .1 .1 .1 .1 .1 .1 .0)
+    (subst (λ (m : ℕ). DirectSearch (fed .feed .result .sampler) (fed .feed .last .1 .0) 0 m (a .k) (a .bins .now) (a .order .now) (search .brute-force-threads .result)
+    (search .brute-force-threads .last .1 .1 .1 .1 .1 .0) (search .brute-force-threads .last .1 .1 .1 .1 .1 .1 .0)) (n .ensures) (search .brute-force-threads .ensures)) .1
 
 pub train-spec : {M : Type 1} → statement M
 train-spec =
@@ -62,6 +69,7 @@ train-spec =
     start-requires
     slice-aggregate-feed
     feed-requires
+    blocks-requires
     slice-aggregate-brute-force-threads
     brute-force-threads-requires
     same-length

@@ -1,0 +1,51 @@
+-- A stretch of the blocks that the words hold: those from block `first` to before block `end`.
+use Prim.Native.Nat.{ℕ, _-_, _*_, _≤_}
+use mathlib.Core.Path.{_≡_}
+use mathlib.Core.Bool.{true, cond}
+use mathlib.Core.List.{List}
+use lib.Dec.{leb}
+use lib.ListN.{take, drop}
+use Rattle.counting.specs.Block.{validSize}
+use Rattle.counting.specs.Recording.{blockBytes, stride, blocksIn, recordedBit}
+use Rattle.counting.specs.Sample.{onward, AgreeBelow}
+use Rattle.counting.specs.Sampling.{blocksOf}
+use Rattle.counting.specs.Words.{storedBit}
+use Rattle.counting.specs.declared.sampling.Sampler.{Sampler}
+use Rattle.counting.specs.declared.stretch.Stretch.{Stretch}
+
+-- the sampler's blocks from `first` to before `end`, in the number of words lent
+abbrev pub stretchOf : Sampler → ℕ → ℕ → ℕ → Stretch
+stretchOf s words first end =
+    record { «block_size» = s .«block_size»; stride = stride (s .«block_size») words; first = first; end = end }
+
+-- 18: first is above end, or end above the sampler's n; else 0
+unfoldable pub stretchRefusal : Sampler → ℕ → ℕ → ℕ
+stretchRefusal s first end = cond (leb first end) (cond (leb end (blocksOf s)) 0 18) 18
+
+-- n: the blocks of the stretch
+abbrev pub span : Stretch → ℕ
+span x = x .end - x .first
+
+-- the sample that it is: its block e is block first + e of those that the words hold
+unfoldable pub stretchBit : Stretch → List ℕ → ℕ → ℕ → ℕ
+stretchBit x ws = onward (x .first) (storedBit (x .stride) ws)
+
+-- the bytes of the blocks from `first` to before `end` of a recording that holds `held`
+abbrev pub stretchBytes : ℕ → List ℕ → ℕ → ℕ → List ℕ
+stretchBytes B held first end = take ((end - first) * blockBytes B) (drop (first * blockBytes B) held)
+
+-- Theorem: a recording that holds these bytes alone has just the blocks of the stretch.
+pub record Alone (B : ℕ) (held : List ℕ) (first end : ℕ) : Type 0 where
+  pub blocks : blocksIn B (stretchBytes B held first end) ≡ end - first
+  pub bits : AgreeBelow (end - first) B (onward first (recordedBit B held)) (recordedBit B (stretchBytes B held first end))
+
+abbrev pub StretchesAlone : Type 0
+StretchesAlone = (B : ℕ) (held : List ℕ) (first end : ℕ) → validSize B ≡ true → first ≤ end → end ≤ blocksIn B held → Alone B held first end
+
+-- it does not end before it begins, its blocks are among those that a row can hold, and their number fits a count
+abbrev pub Within : Stretch → Type 0
+Within x = (x .first ≤ x .end) × (x .end ≤ 64 * x .stride) × (x .end ≤ 16777216)
+
+-- .. and the words have a row for each bit of a block
+abbrev pub StretchIn : Stretch → ℕ → Type 0
+StretchIn x words = (x .«block_size» * x .stride ≤ words) × Within x

@@ -1,0 +1,77 @@
+-- A stretch from 0 to n is the whole of what was recorded (theorems `whole-stretches`, `whole-recordings`), and any stretch is a recording of its blocks
+-- alone (`best-alone`).
+use mathlib.Core.Path.{_≡_, refl, sym, ap, subst, _∙_}
+use mathlib.Core.Logic.{_⊎_}
+use mathlib.Core.List.{List}
+use Prim.Native.Nat.{ℕ, zero, suc, _-_, zero-le}
+use lib.Dec.{T}
+use lib.Ieee.{Float, lt}
+use lib.ListN.{length, take}
+use native.Mathlib.Nat.{le-refl, zero-add, sub-zero}
+use borrow.Author.Tests.{le-leb}
+use Rattle.counting.specs.Recording.{recording, blocksIn, recordedBit}
+use Rattle.counting.specs.Sample.{onward, AgreeBelow}
+use Rattle.counting.specs.Sampling.{blocksOf, samplerRefusal}
+use Rattle.counting.specs.Stretch.{stretchRefusal, stretchBytes, stretchBit}
+use Rattle.counting.specs.declared.sampling.Sampler.{Sampler}
+use Rattle.counting.proofs.Alone.{stretches-alone}
+use Rattle.subsets.specs.Subsets.{lexLt}
+use Rattle.searching.specs.Refusal.{orElse, searchRefusal, directRefusal, layeredRefusal}
+use Rattle.searching.specs.Search.{Search}
+use Rattle.searching.specs.Claim.{Best}
+use Rattle.searching.specs.Stretches.{sampleOf, WholeStretches, WholeRecordings, BestAlone}
+use Rattle.searching.specs.declared.finding.Finding.{Finding}
+use Rattle.searching.proofs.Claiming.{counts-agree, z-agree, recorder}
+
+or-assoc : (a b c : ℕ) → orElse (orElse a b) c ≡ orElse a (orElse b c)
+or-assoc zero b c = refl
+or-assoc (suc a) b c = refl
+
+-- it is never refused with 18
+pub never-outside : (s : Sampler) → stretchRefusal s 0 (blocksOf s) ≡ 0
+unfolding stretchRefusal
+never-outside s = simp (le-leb _ _ (zero-le {n = blocksOf s}), le-leb _ _ (le-refl (blocksOf s)))
+
+-- what holds of a sample's blocks from 0 to n holds of its n blocks
+from-none : (P : (ℕ → ℕ → ℕ) → ℕ → Type 0) (bit : ℕ → ℕ → ℕ) (n : ℕ) → P (onward 0 bit) (n - 0) → P bit n
+from-none P bit n = subst (λ (m : ℕ). P (onward 0 bit) (n - 0) → P bit m) (sub-zero n) (subst (λ (f : ℕ → ℕ → ℕ). P (onward 0 bit) (n - 0) → P f (n - 0)) (λ i e. bit (zero-add e i)) (λ p. p))
+
+pub whole-stretches : WholeStretches
+unfolding directRefusal layeredRefusal searchRefusal stretchBit
+whole-stretches s words = record {
+  direct = λ k bins order. rw (never-outside s) (or-assoc (samplerRefusal s words) _ _);
+  layered = λ k a b bins order. rw (never-outside s) (or-assoc (samplerRefusal s words) _ _);
+  search = λ ws r k bins order answer bins′ order′ S.
+      from-none (λ bit n. Search r bit n (s .«block_size») k bins order answer bins′ order′) (sampleOf s ws) (blocksOf s) S;
+}
+
+pub whole-recordings : WholeRecordings
+whole-recordings B ws pieces answers s ws′ acquired =
+    let H = recorder B ws pieces answers s ws′ acquired in
+    let is : blocksOf s ≡ blocksIn B (recording B (length ws) pieces) = ap blocksOf (H .sampler) in
+    record {
+      blocks = is;
+      best = λ k f bins order b.
+          let bit = recordedBit B (recording B (length ws) pieces) in
+          subst (λ (n : ℕ). Best bit n B k f bins order) is (from-none (λ g n. Best g n B k f bins order) bit (blocksOf s) b);
+    }
+
+-- what is best in a sample is best in another that agrees with it
+best-agrees : (bit bit′ : ℕ → ℕ → ℕ) (n B k : ℕ) (f : Finding) (bins order : List ℕ) → AgreeBelow n B bit bit′ → Best bit n B k f bins order → Best bit′ n B k f bins order
+best-agrees bit bit′ n B k f bins order agree b = record {
+  block = b .block;
+  width = b .width;
+  chosen = b .chosen;
+  zeros = b .zeros;
+  counted = b .counted ∙ counts-agree B n k bit bit′ agree (take k (f .bits)) (b .chosen);
+  division = b .division;
+  z = b .z;
+  ordered = b .ordered;
+  beats = λ t X. subst (λ (z : Float). (t ≡ take k (f .bits)) ⊎ (T (lt z (f .z)) ⊎ ((z ≡ f .z) × T (lexLt (take k (f .bits)) t)))) (z-agree B n k bit bit′ agree t X) (b .beats t X);
+}
+
+pub best-alone : BestAlone
+best-alone B held first end k f bins order ok fe has b =
+    let A = stretches-alone B held first end ok fe has in
+    let bit = recordedBit B (stretchBytes B held first end) in
+    subst (λ (n : ℕ). Best bit n B k f bins order) (sym (A .blocks)) (best-agrees (onward first (recordedBit B held)) bit (end - first) B k f bins order (A .bits) b)

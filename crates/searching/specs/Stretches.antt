@@ -1,0 +1,59 @@
+-- What the search of a stretch is: from 0 to n, the search of all blocks; else that of a recording which holds its blocks alone.
+use Prim.Native.Nat.{ℕ, _≤_}
+use mathlib.Core.Path.{_≡_}
+use mathlib.Core.Bool.{true}
+use mathlib.Core.List.{List}
+use lib.ListN.{length}
+use Rattle.counting.specs.Block.{validSize}
+use Rattle.counting.specs.Recording.{stride, recording, blocksIn}
+use Rattle.counting.specs.Sampling.{blocksOf, samplerRefusal}
+use Rattle.counting.specs.Stretch.{stretchBytes}
+use Rattle.counting.specs.Words.{storedBit}
+use Rattle.counting.specs.declared.sampling.Sampler.{Sampler}
+use Rattle.layers.specs.Size.{storeRefusal}
+use Rattle.searching.specs.Refusal.{orElse, widthRefusal, bufferRefusal, directRefusal, layeredRefusal}
+use Rattle.searching.specs.Search.{Search, StretchSearch}
+use Rattle.searching.specs.Claim.{Acquisition, BestIn, BestOf}
+use Rattle.searching.specs.declared.finding.Finding.{Finding}
+use Rattle.searching.specs.declared.finding.Searched.{Searched}
+
+-- the sample of all blocks that the words hold
+abbrev pub sampleOf : Sampler → List ℕ → ℕ → ℕ → ℕ
+sampleOf s ws = storedBit (stride (s .«block_size») (length ws)) ws
+
+-- Theorem: for every sampler, a search from 0 to n refuses 4, 2, 3, 7, or 4, 2, 3, 6, 7 with stores of a and b entries, and never 18; and with any refusal
+-- it promises the search of all n blocks.
+pub record WholeStretch (s : Sampler) (words : ℕ) : Type 0 where
+  pub direct :
+      (k bins order : ℕ)
+      → directRefusal s words 0 (blocksOf s) k bins order
+      ≡ orElse (samplerRefusal s words) (orElse (widthRefusal (s .«block_size») k) (bufferRefusal k bins order))
+  pub layered :
+      (k a b bins order : ℕ)
+      → layeredRefusal s words 0 (blocksOf s) k a b bins order
+      ≡ orElse (samplerRefusal s words) (orElse (widthRefusal (s .«block_size») k) (orElse (storeRefusal (s .«block_size») k a b) (bufferRefusal k bins order)))
+  pub search :
+      (ws : List ℕ) (r k : ℕ) (bins order : List ℕ) (answer : Searched) (bins′ order′ : List ℕ)
+      → StretchSearch r s ws 0 (blocksOf s) k bins order answer bins′ order′
+      → Search r (sampleOf s ws) (blocksOf s) (s .«block_size») k bins order answer bins′ order′
+
+abbrev pub WholeStretches : Type 0
+WholeStretches = (s : Sampler) (words : ℕ) → WholeStretch s words
+
+-- Theorem: after every acquisition the sampler's n is the recording's, and what is best in the stretch from 0 to n is best in the whole recording.
+pub record WholeRecording (B : ℕ) (held : List ℕ) (s : Sampler) : Type 0 where
+  pub blocks : blocksOf s ≡ blocksIn B held
+  pub best :
+      (k : ℕ) (f : Finding) (bins order : List ℕ)
+      → BestIn B held 0 (blocksOf s) k f bins order → BestOf B held k f bins order
+
+abbrev pub WholeRecordings : Type 0
+WholeRecordings =
+    (B : ℕ) (ws : List ℕ) (pieces : List (List ℕ)) (answers : List ℕ) (s : Sampler) (ws′ : List ℕ)
+    → Acquisition B ws pieces answers s ws′ → WholeRecording B (recording B (length ws) pieces) s
+
+-- Theorem: what is best in a stretch of a recording is best in a recording that holds its blocks alone.
+abbrev pub BestAlone : Type 0
+BestAlone =
+    (B : ℕ) (held : List ℕ) (first end k : ℕ) (f : Finding) (bins order : List ℕ) → validSize B ≡ true → first ≤ end → end ≤ blocksIn B held
+    → BestIn B held first end k f bins order → BestOf B (stretchBytes B held first end) k f bins order
