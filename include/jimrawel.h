@@ -12,8 +12,8 @@
      them writes overlaps a slice of the other. A thread with 128 KB of stack can make every call: this is measured, not proved
      (differential/README.md, "The stack"). The direct search takes the most, 88 KB at width 20; no other call takes 40 KB.
    - Each call takes any numbers at all. What it cannot take it refuses: the result is the number of the first refusal that
-     applies, in the order given at the call, and 0 where there is none (enum jimrawel_refusal). jimrawel_longest_text alone refuses
-     nothing and returns a number of bytes.
+     applies, in the order given at the call, and 0 where there is none (enum jimrawel_refusal). jimrawel_blocks and
+     jimrawel_longest_text alone refuse nothing and return a number of blocks, and of bytes.
    - Where a call is refused, every lent entry is as it was lent, but for three things: a record that the call writes (a sampler by
      jimrawel_start, a finding, a rank, an evaluation, two lengths, a plan, a text's length; not a ranking) then has every number 0;
      after 13 and 14, and after 17 of jimrawel_write_finding, the first 2^width entries of the scratch are 0; and where
@@ -25,6 +25,7 @@
 
    - A sampler is 3 numbers: the block size B in bits, the number of lent words, and T, the bytes taken so far.
      Its words are lent anew with every call; no one else may change them, or the sampler, from start to the last search.
+     n = T / (B / 8), rounded down, is its number of whole blocks (jimrawel_blocks).
    - A finding is 24 numbers: the block size, the width k, the division, the bits of its score z as a double, and 20 bit entries, of
      which the first k count; a search and a reading leave the others 0, and no call reads them. Beside it stands its bin order in a
      buffer of its own.
@@ -75,6 +76,7 @@ enum jimrawel_refusal {
     JIMRAWEL_BAD_DIVISION = 14,      /* the division is 0, or 2^k or more */
     JIMRAWEL_BAD_TEXT = 16,          /* the text is no such object, or a number of its four keys is above 2^32 - 1 */
     JIMRAWEL_NO_ROOM = 17,           /* the output has fewer bytes than the text, or the order fewer entries than the text has indices */
+    JIMRAWEL_BAD_STRETCH = 18,       /* first is above end, or end above the sampler's n */
     JIMRAWEL_SHORT_RECORD = 25,      /* a slice has fewer numbers than the record that is read from it or written to it */
     JIMRAWEL_TOO_MANY_COUNTED = 26   /* the counts of a ranking add up to 2^32 or more */
 };
@@ -93,24 +95,30 @@ uint32_t jimrawel_start(size_t block_size, uint64_t *words, size_t words_len, ui
    Refusals: 25, 4, 5. After 5 a shorter piece may still be taken. */
 uint32_t jimrawel_feed(uint64_t *sampler, size_t sampler_len, uint64_t *words, size_t words_len, const uint8_t *piece, size_t piece_len);
 
-/* The direct search: counts every bin of every set of k bits over the whole blocks taken, and finds the best.
+/* n: the whole blocks that a sampler has taken, an unfinished one not among them. 0 where the slice has fewer than 3 numbers, or B is below 8.
+     sampler  as start or the last feed left it; it is read. */
+size_t jimrawel_blocks(const uint64_t *sampler, size_t sampler_len);
+
+/* The direct search: counts every bin of every set of k bits over a stretch of the whole blocks taken, and finds the best.
      sampler, words  as the last feed left them; they are read.
+     first, end  the stretch: blocks first to end - 1, numbered from 0; the others enter neither counts nor z. From 0 to what jimrawel_blocks
+              returns it is all of them. Where first is end there is no block, and the answer is bits 0 to k - 1, division 1, z 0.
      bins     at least 2^k entries; the winner's counts are written to the first 2^k.
      order    at least 2^k entries; the winner's bin order is written to the first 2^k.
      finding  at least 24 numbers; the winner.
-   Refusals: 25, 4, 2, 3, 7. */
+   Refusals: 25, 4, 18, 2, 3, 7. */
 uint32_t jimrawel_brute_force_threads(
-    const uint64_t *sampler, size_t sampler_len, const uint64_t *words, size_t words_len, size_t k,
+    const uint64_t *sampler, size_t sampler_len, const uint64_t *words, size_t words_len, size_t first, size_t end, size_t k,
     uint32_t *bins, size_t bins_len, uint32_t *order, size_t order_len, uint64_t *finding, size_t finding_len);
 
 /* The layered search: the same answer with one count for each set, the others by subtraction from the sets of one bit fewer.
-     first, second  two stores of at least W entries each, W being the largest C(B, d) x 2^d for d from 1 to max(1, k - 1).
-                    Their first W entries are used and left with anything in them.
+     lower, upper  two stores of at least W entries each, W being the largest C(B, d) x 2^d for d from 1 to max(1, k - 1).
+                   Their first W entries are used and left with anything in them.
      The rest as for the direct search.
-   Refusals: 25, 4, 2, 3, 6, 7. */
+   Refusals: 25, 4, 18, 2, 3, 6, 7. */
 uint32_t jimrawel_brute_force(
-    const uint64_t *sampler, size_t sampler_len, const uint64_t *words, size_t words_len, size_t k,
-    uint32_t *first, size_t first_len, uint32_t *second, size_t second_len,
+    const uint64_t *sampler, size_t sampler_len, const uint64_t *words, size_t words_len, size_t first, size_t end, size_t k,
+    uint32_t *lower, size_t lower_len, uint32_t *upper, size_t upper_len,
     uint32_t *bins, size_t bins_len, uint32_t *order, size_t order_len, uint64_t *finding, size_t finding_len);
 
 /* The rank of a set of bits: how many sets of as many bits come before it in lexicographic order.

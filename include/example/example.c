@@ -1,5 +1,5 @@
-/* A recording fed in two pieces, searched both ways, the finding evaluated on other bytes and on none, written as text and read again. Prints what it
-   finds. */
+/* A recording fed in two pieces, searched both ways, its later blocks alone too, the finding evaluated on other bytes and on none, written as text and read
+   again. Prints what it finds. */
 #include "../jimrawel.h"
 
 #include <inttypes.h>
@@ -30,6 +30,27 @@ static int failed(const char *what, uint32_t refusal) {
     return 1;
 }
 
+static void print_finding(const uint64_t *finding, const uint32_t *order) {
+    printf("bits");
+    for (size_t i = 0; i < finding[JIMRAWEL_WIDTH]; i++) printf(" %" PRIu64, finding[JIMRAWEL_BITS + i]);
+    printf(", order");
+    for (size_t i = 0; i < BINS; i++) printf(" %" PRIu32, order[i]);
+    printf(", division %" PRIu64 ", z %g\n", finding[JIMRAWEL_DIVISION], score(finding[JIMRAWEL_Z]));
+}
+
+/* Both searches of the blocks from first to before end, which find the same, or are refused with the same number; printed where found. */
+static uint32_t search(const uint64_t *sampler, const uint64_t *words, size_t first, size_t end, uint32_t *order, uint64_t *finding) {
+    uint64_t layered[JIMRAWEL_FINDING];
+    uint32_t lower[W], upper[W], bins[BINS];
+    uint32_t refusal = jimrawel_brute_force(
+        sampler, JIMRAWEL_SAMPLER, words, B, first, end, K, lower, W, upper, W, bins, BINS, order, BINS, layered, JIMRAWEL_FINDING);
+    uint32_t direct = jimrawel_brute_force_threads(
+        sampler, JIMRAWEL_SAMPLER, words, B, first, end, K, bins, BINS, order, BINS, finding, JIMRAWEL_FINDING);
+    if (direct != refusal || memcmp(finding, layered, sizeof layered) != 0) exit(failed("the searches differ", direct));
+    if (direct == JIMRAWEL_OK) print_finding(finding, order);
+    return direct;
+}
+
 /* Writes the finding to a buffer that is long enough, prints it, and reads it again: all but z is the same. */
 static uint32_t exchange(const uint64_t *finding, const uint32_t *order) {
     size_t room = jimrawel_longest_text(K), length;
@@ -56,28 +77,20 @@ static uint32_t exchange(const uint64_t *finding, const uint32_t *order) {
 int main(void) {
     const uint8_t training[] = {0x00, 0x00, 0xFF, 0xFF};
     const uint8_t testing[] = {0x00, 0x80, 0xFF, 0xFF};
-    uint64_t words[B], sampler[JIMRAWEL_SAMPLER], finding[JIMRAWEL_FINDING], layered[JIMRAWEL_FINDING];
+    uint64_t words[B], sampler[JIMRAWEL_SAMPLER], finding[JIMRAWEL_FINDING], later[JIMRAWEL_FINDING];
     uint64_t evaluated[JIMRAWEL_EVALUATED];
-    uint32_t first[W], second[W], bins[BINS], order[BINS];
+    uint32_t bins[BINS], order[BINS], later_order[BINS];
     uint32_t refusal;
 
     if ((refusal = jimrawel_start(B, words, B, sampler, JIMRAWEL_SAMPLER)) != JIMRAWEL_OK) return failed("start", refusal);
     for (size_t at = 0; at < sizeof training; at += 2)
         if ((refusal = jimrawel_feed(sampler, JIMRAWEL_SAMPLER, words, B, training + at, 2)) != JIMRAWEL_OK) return failed("feed", refusal);
 
-    refusal = jimrawel_brute_force(
-        sampler, JIMRAWEL_SAMPLER, words, B, K, first, W, second, W, bins, BINS, order, BINS, layered, JIMRAWEL_FINDING);
-    if (refusal != JIMRAWEL_OK) return failed("layered search", refusal);
-    refusal = jimrawel_brute_force_threads(
-        sampler, JIMRAWEL_SAMPLER, words, B, K, bins, BINS, order, BINS, finding, JIMRAWEL_FINDING);
-    if (refusal != JIMRAWEL_OK) return failed("direct search", refusal);
-    if (memcmp(finding, layered, sizeof finding) != 0) return failed("the searches differ", 0);
-
-    printf("bits");
-    for (size_t i = 0; i < finding[JIMRAWEL_WIDTH]; i++) printf(" %" PRIu64, finding[JIMRAWEL_BITS + i]);
-    printf(", order");
-    for (size_t i = 0; i < BINS; i++) printf(" %" PRIu32, order[i]);
-    printf(", division %" PRIu64 ", z %g\n", finding[JIMRAWEL_DIVISION], score(finding[JIMRAWEL_Z]));
+    size_t n = jimrawel_blocks(sampler, JIMRAWEL_SAMPLER);
+    if ((refusal = search(sampler, words, 0, n, order, finding)) != JIMRAWEL_OK) return failed("search", refusal);
+    printf("from block 2 on: ");
+    if ((refusal = search(sampler, words, 2, n, later_order, later)) != JIMRAWEL_OK) return failed("search", refusal);
+    printf("past the last block: refusal %" PRIu32 "\n", search(sampler, words, 2, n + 1, later_order, later));
 
     const size_t lengths[] = {sizeof testing, 0};
     for (size_t i = 0; i < 2; i++) {

@@ -2,6 +2,7 @@
 //! What is lent and left, and each refusal, says include/jimrawel.h. The types beside this module size the slices themselves.
 
 use crate::raw;
+use std::ops::Range;
 
 pub fn start(block_size: usize, words: &mut [u64], sampler: &mut [u64]) -> u32 {
     unsafe { raw::jimrawel_start(block_size, words.as_mut_ptr(), words.len(), sampler.as_mut_ptr(), sampler.len()) }
@@ -17,13 +18,19 @@ pub fn feed(sampler: &mut [u64], words: &mut [u64], piece: &[u8]) -> u32 {
     }
 }
 
+pub fn blocks(sampler: &[u64]) -> usize {
+    unsafe { raw::jimrawel_blocks(sampler.as_ptr(), sampler.len()) }
+}
+
+/// `stretch` is from the first block to before the end.
 pub fn brute_force_threads(
-    sampler: &[u64], words: &[u64], k: usize, bins: &mut [u32], order: &mut [u32], finding: &mut [u64],
+    sampler: &[u64], words: &[u64], stretch: Range<usize>, k: usize, bins: &mut [u32], order: &mut [u32], finding: &mut [u64],
 ) -> u32 {
     unsafe {
         raw::jimrawel_brute_force_threads(
             sampler.as_ptr(), sampler.len(),
             words.as_ptr(), words.len(),
+            stretch.start, stretch.end,
             k,
             bins.as_mut_ptr(), bins.len(),
             order.as_mut_ptr(), order.len(),
@@ -32,18 +39,20 @@ pub fn brute_force_threads(
     }
 }
 
-/// `stores` are the first and the second.
+/// `stores` are the lower and the upper.
 pub fn brute_force(
-    sampler: &[u64], words: &[u64], k: usize, stores: [&mut [u32]; 2], bins: &mut [u32], order: &mut [u32], finding: &mut [u64],
+    sampler: &[u64], words: &[u64], stretch: Range<usize>, k: usize,
+    stores: [&mut [u32]; 2], bins: &mut [u32], order: &mut [u32], finding: &mut [u64],
 ) -> u32 {
-    let [first, second] = stores;
+    let [lower, upper] = stores;
     unsafe {
         raw::jimrawel_brute_force(
             sampler.as_ptr(), sampler.len(),
             words.as_ptr(), words.len(),
+            stretch.start, stretch.end,
             k,
-            first.as_mut_ptr(), first.len(),
-            second.as_mut_ptr(), second.len(),
+            lower.as_mut_ptr(), lower.len(),
+            upper.as_mut_ptr(), upper.len(),
             bins.as_mut_ptr(), bins.len(),
             order.as_mut_ptr(), order.len(),
             finding.as_mut_ptr(), finding.len(),

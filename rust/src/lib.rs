@@ -13,6 +13,8 @@
 //! assert_eq!((finding.bits(), finding.order(), finding.division(), finding.z()), (&[0, 1][..], &[0, 3, 1, 2][..], 2, 2.0));
 //! let evaluation = finding.evaluate(&[0x00, 0x80, 0xFF, 0xFF])?;
 //! assert_eq!((evaluation.positive, evaluation.z), (3, Some(1.0)));
+//! let later = sampler.search_layered_in(2..sampler.blocks(), 2)?;
+//! assert_eq!((later.bits(), later.counts(), later.division()), (&[0, 1][..], &[0, 0, 0, 2][..], 1));
 //! assert_eq!(Sampler::start(12, 64).unwrap_err(), Refusal::BlockSize);
 //! # Ok::<(), Refusal>(())
 //! ```

@@ -15,9 +15,12 @@ extern "C" {
         piece: *const u8, piece_len: usize,
     ) -> u32;
 
+    pub fn jimrawel_blocks(sampler: *const u64, sampler_len: usize) -> usize;
+
     pub fn jimrawel_brute_force_threads(
         sampler: *const u64, sampler_len: usize,
         words: *const u64, words_len: usize,
+        first: usize, end: usize,
         k: usize,
         bins: *mut u32, bins_len: usize,
         order: *mut u32, order_len: usize,
@@ -27,9 +30,10 @@ extern "C" {
     pub fn jimrawel_brute_force(
         sampler: *const u64, sampler_len: usize,
         words: *const u64, words_len: usize,
+        first: usize, end: usize,
         k: usize,
-        first: *mut u32, first_len: usize,
-        second: *mut u32, second_len: usize,
+        lower: *mut u32, lower_len: usize,
+        upper: *mut u32, upper_len: usize,
         bins: *mut u32, bins_len: usize,
         order: *mut u32, order_len: usize,
         finding: *mut u64, finding_len: usize,

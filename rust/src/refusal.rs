@@ -34,13 +34,15 @@ pub enum Refusal {
     Text = 16,
     /// The output or the order buffer is too short.
     Room = 17,
+    /// The stretch ends before it begins, or after the last whole block.
+    Stretch = 18,
     /// A slice is too short for its record.
     ShortRecord = 25,
     /// The counts of a ranking add up to 2^32 or more.
     TooManyCounted = 26,
 }
 
-const ALL: [Refusal; 18] = [
+const ALL: [Refusal; 19] = [
     Refusal::BlockSize,
     Refusal::Width,
     Refusal::WidthAboveBlock,
@@ -57,6 +59,7 @@ const ALL: [Refusal; 18] = [
     Refusal::Division,
     Refusal::Text,
     Refusal::Room,
+    Refusal::Stretch,
     Refusal::ShortRecord,
     Refusal::TooManyCounted,
 ];

@@ -1,6 +1,7 @@
 use crate::calls;
 use crate::finding::Finding;
 use crate::refusal::{accepted, Refusal};
+use std::ops::Range;
 
 /// A recording in progress, with the words that hold it.
 #[derive(Clone, Debug)]
@@ -35,7 +36,7 @@ impl Sampler {
 
     /// The whole blocks taken so far.
     pub fn blocks(&self) -> usize {
-        self.taken() / (self.block_size() / 8)
+        calls::blocks(&self.numbers)
     }
 
     /// Takes the next piece. Where it is refused nothing has changed.
@@ -44,21 +45,31 @@ impl Sampler {
         accepted(calls::feed(numbers, words, piece))
     }
 
-    /// The best set of `k` bits, every bin counted.
+    /// The best set of `k` bits in all whole blocks, every bin counted.
     pub fn search_direct(&self, k: usize) -> Result<Finding, Refusal> {
-        let Sampler { numbers, words } = self;
-        let (mut bins, mut order, mut finding) = buffers(k);
-        accepted(calls::brute_force_threads(numbers, words, k, &mut bins, &mut order, &mut finding))?;
-        Ok(Finding::found(finding, order, bins))
+        self.search_direct_in(0..self.blocks(), k)
     }
 
     /// The same by subtraction from layer to layer: faster, with two stores that are allocated for it.
     pub fn search_layered(&self, k: usize) -> Result<Finding, Refusal> {
+        self.search_layered_in(0..self.blocks(), k)
+    }
+
+    /// The best set of `k` bits in a stretch of the whole blocks, as if these alone had been recorded; every bin counted.
+    pub fn search_direct_in(&self, stretch: Range<usize>, k: usize) -> Result<Finding, Refusal> {
+        let Sampler { numbers, words } = self;
+        let (mut bins, mut order, mut finding) = buffers(k);
+        accepted(calls::brute_force_threads(numbers, words, stretch, k, &mut bins, &mut order, &mut finding))?;
+        Ok(Finding::found(finding, order, bins))
+    }
+
+    /// The same by subtraction from layer to layer.
+    pub fn search_layered_in(&self, stretch: Range<usize>, k: usize) -> Result<Finding, Refusal> {
         let Sampler { numbers, words } = self;
         let (mut bins, mut order, mut finding) = buffers(k);
         let size = store_size(self.block_size(), k);
-        let (mut first, mut second) = (vec![0; size], vec![0; size]);
-        accepted(calls::brute_force(numbers, words, k, [&mut first, &mut second], &mut bins, &mut order, &mut finding))?;
+        let (mut lower, mut upper) = (vec![0; size], vec![0; size]);
+        accepted(calls::brute_force(numbers, words, stretch, k, [&mut lower, &mut upper], &mut bins, &mut order, &mut finding))?;
         Ok(Finding::found(finding, order, bins))
     }
 }

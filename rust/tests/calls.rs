@@ -18,6 +18,45 @@ fn pieces_are_one_recording() {
 }
 
 #[test]
+fn a_stretch_is_a_recording_of_its_blocks() {
+    let bytes: Vec<u8> = (0..401).map(|i| (i * i % 7 * 37) as u8).collect();
+    let mut whole = Sampler::start(16, 200).unwrap();
+    whole.feed(&bytes).unwrap();
+    for stretch in [0..200, 1..200, 0..199, 63..64, 63..65, 64..128, 65..193, 199..200, 30..30, 200..200] {
+        let mut alone = Sampler::start(16, stretch.len()).unwrap();
+        alone.feed(&bytes[2 * stretch.start..2 * stretch.end]).unwrap();
+        for k in 1..4 {
+            let found = alone.search_direct(k).unwrap();
+            assert_eq!(whole.search_direct_in(stretch.clone(), k).as_ref(), Ok(&found), "{stretch:?}, k {k}");
+            assert_eq!(whole.search_layered_in(stretch.clone(), k).as_ref(), Ok(&found), "{stretch:?}, k {k}");
+            assert_eq!(found.counts().iter().sum::<u32>() as usize, stretch.len());
+        }
+    }
+    let empty = whole.search_layered_in(64..64, 3).unwrap();
+    assert_eq!((empty.bits(), empty.division(), empty.z(), empty.counts()), (&[0, 1, 2][..], 1, 0.0, &[0; 8][..]));
+}
+
+#[test]
+fn other_stretches() {
+    let mut sampler = Sampler::start(16, 64).unwrap();
+    sampler.feed(&[0xA5; 21]).unwrap();
+    assert_eq!(sampler.blocks(), 10);
+    for (first, end) in [(1, 0), (10, 9), (0, 11), (11, 11), (0, usize::MAX), (usize::MAX, 10), (1 << 32, (1 << 32) + 1)] {
+        // Before the width's refusals.
+        for k in [2, 0, 17] {
+            assert_eq!(sampler.search_direct_in(first..end, k), Err(Refusal::Stretch), "{first}..{end}");
+            assert_eq!(sampler.search_layered_in(first..end, k), Err(Refusal::Stretch), "{first}..{end}");
+        }
+    }
+    let (words, mut bins, mut order, mut stores, mut finding) = ([0; 16], [9; 4], [9; 4], [[9; 32]; 2], [9; 24]);
+    let [lower, upper] = &mut stores;
+    assert_eq!(calls::brute_force(&[16, 16, 21], &words, 0..11, 2, [lower, upper], &mut bins, &mut order, &mut finding), Refusal::Stretch.number());
+    assert_eq!((bins, order, stores, finding), ([9; 4], [9; 4], [[9; 32]; 2], [0; 24]));
+    assert_eq!(calls::brute_force_threads(&[16, 15, 21], &words, 0..11, 2, &mut bins, &mut order, &mut finding), Refusal::Sampler.number());
+    assert_eq!((calls::blocks(&[16, 16, 21]), calls::blocks(&[16, 16]), calls::blocks(&[0, 16, 21])), (10, 0, 0));
+}
+
+#[test]
 fn refusals() {
     let sampler = Sampler::start(8, 1).unwrap();
     assert_eq!(Sampler::start(4104, 1).unwrap_err().number(), 1);
