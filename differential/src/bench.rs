@@ -44,18 +44,18 @@ fn searches(block_size: usize, k: usize, bytes: usize) {
 
     let rows = transform_data(&data, block_size);
     let size = store_size(block_size, k).unwrap();
-    let (mut first, mut second) = (vec![0; size], vec![0; size]);
+    let (mut lower, mut upper) = (vec![0; size], vec![0; size]);
     let (mut bins, mut order) = (vec![0; 1 << k], vec![0; 1 << k]);
     let (mut found, mut expected) = (None, None);
     compare(
         &format!("{name}, layered"),
-        &mut || found = Some(ours::layered(&sampler, &words, k, &mut first, &mut second, &mut bins, &mut order)),
+        &mut || found = Some(ours::layered(&sampler, &words, 0..blocks, k, [&mut lower, &mut upper], &mut bins, &mut order)),
         &mut || expected = brute_force(&rows, block_size, k),
     );
     assert_eq!(found.take().unwrap().finding[3], expected.take().unwrap().z.to_bits());
     compare(
         &format!("{name}, direct"),
-        &mut || found = Some(ours::direct(&sampler, &words, k, &mut bins, &mut order)),
+        &mut || found = Some(ours::direct(&sampler, &words, 0..blocks, k, &mut bins, &mut order)),
         &mut || expected = brute_force_threads(&rows, block_size, k, 1),
     );
     assert_eq!(found.unwrap().finding[3], expected.unwrap().z.to_bits());

@@ -1,5 +1,5 @@
-//! Recordings at capacity, 16,777,216 blocks, fed in uneven pieces and searched both ways, and as many blocks evaluated. Bytes of few values or of a short
-//! period, so that scores tie, and drawn ones.
+//! Recordings at capacity, 16,777,216 blocks, fed in uneven pieces and searched both ways, whole and from the first word to the last but for some blocks of
+//! these, and as many blocks evaluated. Bytes of few values or of a short period, so that scores tie, and drawn ones.
 
 use crate::account::Run;
 use crate::case::Compared;
@@ -31,8 +31,13 @@ pub fn run() {
             let words = BLOCKS / 64 * block_size + more;
             let pieces = pieces(draws, &held, capacity_bytes(block_size, words));
             println!("B {block_size}, bytes of kind {bytes}, k {k}: {words} words, {} pieces", pieces.len());
-            let case = Recording { block_size, words, pieces, k, bins: 1, order: 0, stores: [0, 1], stale: false };
+            let case = Recording { block_size, words, pieces, stretch: 0..BLOCKS, k, bins: 1, order: 0, stores: [0, 1], stale: false };
             run.compare("recordings", |searches| case.check(searches));
+            if k == 2 {
+                let part = Recording { stretch: 1 + 13 * number % 63..BLOCKS - 1 - 29 * number % 63, ..case };
+                println!("the same, blocks {:?}", part.stretch);
+                run.compare("recordings, a stretch", |searches| part.check(searches));
+            }
         }
         run.compare("checks and evaluations", |searches| judged(draws, block_size, held).check(searches));
     }

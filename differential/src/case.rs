@@ -65,17 +65,19 @@ pub fn same<T: PartialEq + std::fmt::Debug>(what: &str, ours: T, reference: T) -
     Err(format!("{what}: ours {ours:?}, the reference {reference:?}"))
 }
 
-/// Lists with one stretch left out, longer stretches first, and with one entry halved.
+/// Lists with one stretch left out, longer stretches first, and with one entry halved. Of a list of thousands, whose copies would fill the memory, only long
+/// stretches.
 pub fn fewer<T: Copy + Into<u64> + TryFrom<u64>>(list: &[T], drop: bool) -> Vec<Vec<T>> {
     let mut lists = Vec::new();
     let mut stretch = if drop { list.len() } else { 0 };
-    while stretch > 0 {
+    while stretch > list.len() / 1000 {
         for at in (0..=list.len() - stretch).step_by(stretch) {
             lists.push([&list[..at], &list[at + stretch..]].concat());
         }
         stretch /= 2;
     }
-    for at in 0..list.len() {
+    let entries = if list.len() < 1000 { list.len() } else { 0 };
+    for at in 0..entries {
         let value: u64 = list[at].into();
         for less in [0, value / 2, value.saturating_sub(1)] {
             if less < value {

@@ -9,7 +9,7 @@ use answers::{
 };
 use std::panic;
 
-const ROWS: [(&str, fn() -> Checked); 26] = [
+const ROWS: [(&str, fn() -> Checked); 28] = [
     ("pieces", pieces),
     ("row words", row_words),
     ("an unfinished block", unfinished_block),
@@ -20,6 +20,8 @@ const ROWS: [(&str, fn() -> Checked); 26] = [
     ("stores", stores),
     ("buffers", buffers),
     ("samplers", samplers),
+    ("stretches", stretches),
+    ("stretches that are none", other_stretches),
     ("threads", threads),
     ("large ranks", large_ranks),
     ("ranks of no subset", ranks_of_no_subset),
@@ -89,7 +91,7 @@ fn check(finding: &Finding, scratch: &mut [u32]) -> u32 {
 fn pieces() -> Checked {
     let (sampler, words) = sampled(8, &[&[0, 0, 255], &[], &[255]]);
     let found = bottomup(&[0, 0, 255, 255], 8, 2, 1)?;
-    same("finding", ours::direct(&sampler, &words, 2, &mut [0; 4], &mut [0; 4]).finding, numbers(&found))
+    same("finding", ours::direct(&sampler, &words, 0..4, 2, &mut [0; 4], &mut [0; 4]).finding, numbers(&found))
 }
 
 fn row_words() -> Checked {
@@ -105,7 +107,7 @@ fn unfinished_block() -> Checked {
     is("the reference's", (rows.num_of_blocks(), rows.row(0)), (1, &[1][..]))?;
     let (sampler, words) = sampled(16, &[&bytes]);
     let mut counts = [0; 2];
-    is("refusal", ours::direct(&sampler, &words, 1, &mut counts, &mut [0; 2]).refusal, 0)?;
+    is("refusal", ours::direct(&sampler, &words, 0..1, 1, &mut counts, &mut [0; 2]).refusal, 0)?;
     is("counts", counts, [0, 1])
 }
 
@@ -155,7 +157,7 @@ fn many_blocks() -> Checked {
 
 fn widths() -> Checked {
     let (sampler, words) = sampled(8, &[&[0, 255]]);
-    let refusal = |k: usize| ours::direct(&sampler, &words, k, &mut [0; 512], &mut [0; 512]).refusal;
+    let refusal = |k: usize| ours::direct(&sampler, &words, 0..2, k, &mut [0; 512], &mut [0; 512]).refusal;
     is("widths 0, 9, 21", [0, 9, 21].map(refusal), [2, 3, 2])?;
     is("the reference's bits at width 0", bottomup(&[0, 255], 8, 0, 1)?.bits, vec![])?;
     for k in ["0", "9", "21"] {
@@ -171,21 +173,21 @@ fn widths() -> Checked {
 fn stores() -> Checked {
     let (sampler, words) = sampled(8, &[&[0, 255]]);
     let refusal = |entries: usize| {
-        let (mut first, mut second) = (vec![0; entries], vec![0; 1792]);
-        ours::layered(&sampler, &words, 8, &mut first, &mut second, &mut [0; 256], &mut [0; 256]).refusal
+        let (mut lower, mut upper) = (vec![0; entries], vec![0; 1792]);
+        ours::layered(&sampler, &words, 0..2, 8, [&mut lower, &mut upper], &mut [0; 256], &mut [0; 256]).refusal
     };
     is("stores of 1,791 and 1,792", [1791, 1792].map(refusal), [6, 0])?;
     is("the reference", bottomup(&[0, 255], 8, 8, 0).is_ok(), true)?;
     // C(128, 5) x 2^5 is above 2^32: refused with any stores. The reference would need more memory than there is.
     let (sampler, words) = sampled(128, &[&[0; 16]]);
-    let layered = ours::layered(&sampler, &words, 6, &mut [0; 9], &mut [0; 9], &mut [0; 64], &mut [0; 64]);
+    let layered = ours::layered(&sampler, &words, 0..1, 6, [&mut [0; 9], &mut [0; 9]], &mut [0; 64], &mut [0; 64]);
     is("W above 2^32", layered.refusal, 6)
 }
 
 fn buffers() -> Checked {
     let (sampler, words) = sampled(8, &[&[0, 255]]);
     let mut bins = [5; 3];
-    is("search", ours::direct(&sampler, &words, 2, &mut bins, &mut [0; 4]).refusal, 7)?;
+    is("search", ours::direct(&sampler, &words, 0..2, 2, &mut bins, &mut [0; 4]).refusal, 7)?;
     is("bins", bins, [5; 3])?;
     is("check", check(&finding(&[0, 1, 2, 3], 1), &mut [0; 3]), 7)?;
     is("a finding of 23 numbers", ours::validate(&numbers(&finding(&[0, 1, 2, 3], 1))[..23], &[0, 1, 2, 3], &mut [0; 4]), 25)
@@ -193,13 +195,38 @@ fn buffers() -> Checked {
 
 fn samplers() -> Checked {
     let (sampler, words) = sampled(8, &[&[0, 255]]);
-    is("other words", ours::direct(&sampler, &words[1..], 1, &mut [0; 2], &mut [0; 2]).refusal, 4)
+    is("other words", ours::direct(&sampler, &words[1..], 0..2, 1, &mut [0; 2], &mut [0; 2]).refusal, 4)
+}
+
+fn stretches() -> Checked {
+    let bytes = [0xAA, 0xAA, 0xAA, 0, 0, 255, 255];
+    let (sampler, words) = sampled(8, &[&bytes]);
+    let mut bins = [9; 4];
+    let ours = ours::direct(&sampler, &words, 3..7, 2, &mut bins, &mut [0; 4]);
+    same("finding", ours.finding, numbers(&bottomup(&bytes[3..], 8, 2, 1)?))?;
+    is("counts", bins, [2, 0, 0, 2])?;
+    is("the chosen bits", &ours.finding[4..6], &[0, 1])?;
+    is("the reference's bits of all blocks", &bottomup(&bytes, 8, 2, 1)?.bits[..], &[0, 2])
+}
+
+fn other_stretches() -> Checked {
+    let (sampler, words) = sampled(8, &[&[0xAA, 0xAA, 0xAA, 0, 0, 255, 255]]);
+    for stretch in [4..3, 0..8, 8..8] {
+        let (mut bins, mut order) = ([5; 4], [5; 4]);
+        let answer = ours::direct(&sampler, &words, stretch.clone(), 2, &mut bins, &mut order);
+        is("direct", (answer.refusal, answer.finding, bins, order), (18, [0; 24], [5; 4], [5; 4]))?;
+        let (mut lower, mut upper) = ([5; 16], [5; 16]);
+        let answer = ours::layered(&sampler, &words, stretch, 2, [&mut lower, &mut upper], &mut bins, &mut order);
+        is("layered", (answer.refusal, answer.finding, bins, order), (18, [0; 24], [5; 4], [5; 4]))?;
+        is("stores", (lower, upper), ([5; 16], [5; 16]))?;
+    }
+    Ok(())
 }
 
 fn threads() -> Checked {
     let bytes: Vec<u8> = (0..999).map(|i| (i * i % 251) as u8).collect();
     let (sampler, words) = sampled(24, &[&bytes]);
-    let ours = ours::direct(&sampler, &words, 3, &mut [0; 8], &mut [0; 8]).finding;
+    let ours = ours::direct(&sampler, &words, 0..333, 3, &mut [0; 8], &mut [0; 8]).finding;
     for threads in 0..4 {
         same("finding", ours, numbers(&bottomup(&bytes, 24, 3, threads)?))?;
     }

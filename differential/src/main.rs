@@ -1,6 +1,7 @@
 //! Our calls against the reference's, on drawn cases: `differential [SEED [CASES]]`. Or on recordings that take too long to be drawn: `differential widths`,
-//! `differential capacity`, `differential wide WIDTH [reference]`. Or findings as text: `differential exchange [SEED [CASES]]`. Or what is known to differ:
-//! `differential differences`. Or their times: `differential bench`. Or the stack that our calls take: `differential stack`.
+//! `differential capacity`, `differential wide WIDTH [reference]`. Or recordings searched in many stretches: `differential stretches [SEED [CASES]]`. Or
+//! findings as text: `differential exchange [SEED [CASES]]`. Or what is known to differ: `differential differences`. Or their times: `differential bench`.
+//! Or the stack that our calls take: `differential stack`.
 
 mod account;
 mod bench;
@@ -13,6 +14,7 @@ mod ours;
 mod rankings;
 mod recordings;
 mod stack;
+mod stretches;
 mod wide;
 mod widths;
 
@@ -30,6 +32,7 @@ fn main() {
         Some("differences") => return differences::run(),
         Some("exchange") => return exchange::run(seed(args.get(1)), cases(args.get(2), 100_000)),
         Some("stack") => return stack::run(),
+        Some("stretches") => return stretches::run(seed(args.get(1)), cases(args.get(2), 20_000)),
         Some("wide") => return wide::run(args.get(1).expect("the width"), args.get(2).map(String::as_str)),
         Some("widths") => return widths::run(),
         _ => (),
@@ -49,21 +52,26 @@ fn cases(arg: Option<&String>, default: u64) -> u64 {
     arg.map_or(default, |arg| arg.parse().expect("the number of cases is a number"))
 }
 
-/// Draws and compares; a case that differs is made smaller and printed whole, and ends the run.
+/// Draws and compares.
 fn compare(seed: u64, cases: u64) {
     println!("seed {seed}, {cases} cases");
     let mut run = Run::new();
     for number in 0..cases {
         let case = Case::of_run(seed, number);
-        let mut searches = Account::default();
-        if let Err(what) = case.check(&mut searches) {
-            println!("case {number} differs: {what}");
-            let case = shrink(case);
-            println!("made smaller: {}", case.check(&mut searches).unwrap_err());
-            println!("{case:?}");
-            run.fail();
-        }
-        run.enter(kind(&case), searches);
+        compare_one(&mut run, kind(&case), number, case);
     }
     run.close(&format!("seed {seed}"));
+}
+
+/// A case that differs is made smaller and printed whole, and ends the run.
+fn compare_one(run: &mut Run, kind: &'static str, number: u64, case: Case) {
+    let mut searches = Account::default();
+    if let Err(what) = case.check(&mut searches) {
+        println!("case {number} differs: {what}");
+        let case = shrink(case);
+        println!("made smaller: {}", case.check(&mut searches).unwrap_err());
+        println!("{case:?}");
+        run.fail();
+    }
+    run.enter(kind, searches);
 }

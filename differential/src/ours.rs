@@ -1,7 +1,8 @@
 //! Our calls, with answers that hold something before each, so that what a call leaves unwritten is seen.
 
 use jimrawel::calls;
-pub use jimrawel::calls::{feed, from_bins, longest_text, start, validate};
+pub use jimrawel::calls::{blocks, feed, from_bins, longest_text, start, validate};
+use std::ops::Range;
 
 /// What a search answers: its refusal and the 24 numbers of its finding.
 #[derive(Clone, Debug, PartialEq)]
@@ -10,18 +11,18 @@ pub struct Searched {
     pub finding: [u64; 24],
 }
 
-pub fn direct(sampler: &[u64], words: &[u64], k: usize, bins: &mut [u32], order: &mut [u32]) -> Searched {
+pub fn direct(sampler: &[u64], words: &[u64], stretch: Range<usize>, k: usize, bins: &mut [u32], order: &mut [u32]) -> Searched {
     let mut finding = [7; 24];
-    let refusal = calls::brute_force_threads(sampler, words, k, bins, order, &mut finding);
+    let refusal = calls::brute_force_threads(sampler, words, stretch, k, bins, order, &mut finding);
     Searched { refusal, finding }
 }
 
 pub fn layered(
-    sampler: &[u64], words: &[u64], k: usize,
-    first: &mut [u32], second: &mut [u32], bins: &mut [u32], order: &mut [u32],
+    sampler: &[u64], words: &[u64], stretch: Range<usize>, k: usize,
+    stores: [&mut [u32]; 2], bins: &mut [u32], order: &mut [u32],
 ) -> Searched {
     let mut finding = [7; 24];
-    let refusal = calls::brute_force(sampler, words, k, [first, second], bins, order, &mut finding);
+    let refusal = calls::brute_force(sampler, words, stretch, k, stores, bins, order, &mut finding);
     Searched { refusal, finding }
 }
 

@@ -5,6 +5,7 @@ use crate::case::{fewer, same, Checked, Compared};
 use crate::ours::{self, Searched};
 use answers::run::Recording;
 use answers::{bottomup, capacity_bytes, choose, evaluate_histogram, transform_data, valid, Finding};
+use std::ops::Range;
 
 pub const LENT: u32 = 0xABCD;
 
@@ -28,7 +29,7 @@ impl Compared for Recording {
     }
 
     fn smaller(&self) -> Vec<Recording> {
-        let mut cases = Vec::new();
+        let mut cases = smaller_stretches(self);
         for at in 0..self.pieces.len() {
             let mut case = self.clone();
             case.pieces.remove(at);
@@ -45,11 +46,36 @@ impl Compared for Recording {
                 cases.push(case);
             }
         }
+        if self.within() {
+            cases.iter_mut().for_each(keep_within);
+        }
         if self.k > 1 {
             cases.push(Recording { k: self.k - 1, ..self.clone() });
         }
         cases
     }
+}
+
+/// The recording with stretches of fewer blocks, or of as many nearer to 0.
+fn smaller_stretches(case: &Recording) -> Vec<Recording> {
+    let Range { start, end } = case.stretch;
+    let mut stretches = Vec::new();
+    if start < end {
+        let middle = start + (end - start) / 2;
+        stretches.extend([start..middle, middle..end, start..end - 1, start + 1..end]);
+    }
+    let nearest = start.min(end);
+    if nearest > 0 {
+        stretches.extend([nearest, nearest.div_ceil(2), 1].map(|less| start - less..end - less));
+    }
+    let shorter = stretches.into_iter().filter(|stretch| *stretch != case.stretch);
+    shorter.map(|stretch| Recording { stretch, ..case.clone() }).collect()
+}
+
+/// A stretch of the recording ends with it, also where blocks were dropped.
+fn keep_within(case: &mut Recording) {
+    let end = case.stretch.end.min(case.blocks());
+    case.stretch = case.stretch.start.min(end)..end;
 }
 
 /// Feeds and searches a recording on both sides; a layered search that works more than this is left out.
@@ -79,7 +105,11 @@ pub fn compare(case: &Recording, work: usize, searches: &mut Account) -> Checked
         same("sampler past capacity", sampler, lent)?;
     }
     check_words(case, &words, &held)?;
-    check_searches(case, &sampler, &words, &held, work, searches)
+    let size = case.block_size / 8;
+    same("the sampler's blocks", ours::blocks(&sampler), sampler[2] as usize / size)?;
+    // The reference searches a recording of the stretch's blocks alone; where the stretch is refused it searches nothing.
+    let blocks = if case.within() { &held[case.stretch.start * size..case.stretch.end * size] } else { &[] };
+    check_searches(case, &sampler, &words, blocks, work, searches)
 }
 
 /// All words: the reference's rows, to which an unfinished block adds its bits, and 0 everywhere else.
@@ -97,12 +127,12 @@ fn check_words(case: &Recording, words: &[u64], held: &[u8]) -> Checked {
     same("the words past the rows", words[case.block_size * stride..].iter().all(|&word| word == 0), true)
 }
 
-fn check_searches(case: &Recording, sampler: &[u64], words: &[u64], held: &[u8], work: usize, searches: &mut Account) -> Checked {
+fn check_searches(case: &Recording, sampler: &[u64], words: &[u64], blocks: &[u8], work: usize, searches: &mut Account) -> Checked {
     let m = 1_isize << case.k.min(20);
     let mut bins = vec![LENT; (m + case.bins) as usize];
     let mut order = vec![LENT; (m + case.order) as usize];
-    let direct = ours::direct(sampler, words, case.k, &mut bins, &mut order);
-    check_search(case, "direct", 1, refusal(case, false), held, &direct, &bins, &order)?;
+    let direct = ours::direct(sampler, words, case.stretch.clone(), case.k, &mut bins, &mut order);
+    check_search(case, "direct", 1, refusal(case, false), blocks, &direct, &bins, &order)?;
     searches.add(entry("direct", direct.refusal), true);
 
     let expected = refusal(case, true);
@@ -116,9 +146,9 @@ fn check_searches(case: &Recording, sampler: &[u64], words: &[u64], held: &[u8],
     let mut stores = case.stores.map(|more| vec![LENT; (size as isize + more) as usize]);
     let mut layered_bins = vec![LENT; bins.len()];
     let mut layered_order = vec![LENT; order.len()];
-    let [first, second] = &mut stores;
-    let layered = ours::layered(sampler, words, case.k, first, second, &mut layered_bins, &mut layered_order);
-    check_search(case, "layered", 0, expected, held, &layered, &layered_bins, &layered_order)?;
+    let [lower, upper] = &mut stores;
+    let layered = ours::layered(sampler, words, case.stretch.clone(), case.k, [lower, upper], &mut layered_bins, &mut layered_order);
+    check_search(case, "layered", 0, expected, blocks, &layered, &layered_bins, &layered_order)?;
     for store in &stores {
         let free = if layered.refusal == 0 { size } else { 0 };
         same("the rest of a store", &store[free..], &vec![LENT; store.len() - free][..])?;
@@ -146,6 +176,8 @@ fn entry(name: &str, refusal: u32) -> &'static str {
 fn refusal(case: &Recording, layered: bool) -> u32 {
     if case.stale {
         4
+    } else if !case.within() {
+        18
     } else if case.k == 0 || case.k > 20 {
         2
     } else if case.k > case.block_size {
@@ -160,16 +192,16 @@ fn refusal(case: &Recording, layered: bool) -> u32 {
 }
 
 fn check_search(
-    case: &Recording, name: &str, threads: usize, refusal: u32, held: &[u8], ours: &Searched, bins: &[u32], order: &[u32],
+    case: &Recording, name: &str, threads: usize, refusal: u32, blocks: &[u8], ours: &Searched, bins: &[u32], order: &[u32],
 ) -> Checked {
     same(&format!("{name}: refusal"), ours.refusal, refusal)?;
     if refusal != 0 {
         same(&format!("{name}: finding beside a refusal"), ours.finding, [0; 24])?;
         return same(&format!("{name}: buffers as lent"), bins.iter().chain(order).all(|&entry| entry == LENT), true);
     }
-    let found = bottomup(held, case.block_size, case.k, threads)?;
+    let found = bottomup(blocks, case.block_size, case.k, threads)?;
     same(&format!("{name}: finding"), ours.finding, numbers(&found))?;
-    let counts = evaluate_histogram(&found, held).bins;
+    let counts = evaluate_histogram(&found, blocks).bins;
     same(&format!("{name}: counts"), bins.to_vec(), entries(&counts, bins.len()))?;
     same(&format!("{name}: order"), order.to_vec(), entries(&found.order, order.len()))
 }

@@ -114,6 +114,8 @@ fn feeding(table: &mut Table) {
         table.row("jimrawel_start", &format!("B {block_size}"), move || {
             assert_eq!(calls::start(black_box(block_size), &mut words, &mut sampler), 0);
         });
+        let (sampler, _) = fed(block_size, 65);
+        table.row("jimrawel_blocks", &format!("B {block_size}"), move || assert_eq!(calls::blocks(black_box(&sampler)), 65));
         let (mut sampler, mut words) = (vec![0; 3], vec![1; 1 << 20]);
         let pieces = [1, 0, 777, 100_000].map(|bytes| Draws::new(3).bytes(bytes));
         assert_eq!(calls::start(block_size, &mut words, &mut sampler), 0);
@@ -129,17 +131,17 @@ fn direct(table: &mut Table, block_size: usize, k: usize, blocks: usize) {
     let (sampler, words) = fed(block_size, blocks);
     let (mut bins, mut order, mut finding) = (vec![0; 1 << k], vec![0; 1 << k], [0; 24]);
     table.row("jimrawel_brute_force_threads", &format!("B {block_size}, k {k}, {blocks} blocks"), move || {
-        assert_eq!(calls::brute_force_threads(&sampler, &words, k, &mut bins, &mut order, &mut finding), 0);
+        assert_eq!(calls::brute_force_threads(&sampler, &words, 0..blocks, k, &mut bins, &mut order, &mut finding), 0);
     });
 }
 
 fn layered(table: &mut Table, block_size: usize, k: usize, blocks: usize) {
     let (sampler, words) = fed(block_size, blocks);
     let size = store_size(block_size, k).unwrap();
-    let (mut first, mut second) = (vec![0; size], vec![0; size]);
+    let (mut lower, mut upper) = (vec![0; size], vec![0; size]);
     let (mut bins, mut order, mut finding) = (vec![0; 1 << k], vec![0; 1 << k], [0; 24]);
     table.row("jimrawel_brute_force", &format!("B {block_size}, k {k}, {blocks} blocks"), move || {
-        assert_eq!(calls::brute_force(&sampler, &words, k, [&mut first, &mut second], &mut bins, &mut order, &mut finding), 0);
+        assert_eq!(calls::brute_force(&sampler, &words, 0..blocks, k, [&mut lower, &mut upper], &mut bins, &mut order, &mut finding), 0);
     });
 }
 

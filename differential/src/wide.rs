@@ -60,7 +60,7 @@ fn ours(k: usize) -> Answer {
     let m = 1 << k;
     let (mut counts, mut order) = (vec![LENT; m + 1], vec![LENT; m + 1]);
     let start = Instant::now();
-    let searched = ours::direct(&sampler, &words, k, &mut counts, &mut order);
+    let searched = ours::direct(&sampler, &words, 0..BLOCKS, k, &mut counts, &mut order);
     println!("wide: width {k}: ours took {:.0} s", start.elapsed().as_secs_f64());
     assert_eq!((searched.refusal, counts.pop(), order.pop()), (0, Some(LENT), Some(LENT)));
     Answer { finding: searched.finding.to_vec(), counts, order }

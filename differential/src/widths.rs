@@ -28,5 +28,6 @@ pub fn run() {
 fn drawn(block_size: usize, k: usize) -> Recording {
     let draws = &mut Draws::new((block_size * 32 + k) as u64);
     let held = recording(draws, [5, 0, 3][k % 3], 70 * block_size / 8 + block_size / 16);
-    Recording { block_size, words: 2 * block_size + 3, pieces: cut(draws, &held, 4), k, bins: 0, order: 1, stores: [1, 0], stale: false }
+    let (words, pieces) = (2 * block_size + 3, cut(draws, &held, 4));
+    Recording { block_size, words, pieces, stretch: 0..70, k, bins: 0, order: 1, stores: [1, 0], stale: false }
 }

@@ -10,7 +10,23 @@ struct Case {
     block_size: usize,
     words: usize,
     pieces: Vec<Vec<u8>>,
-    subsets: Vec<Vec<usize>>,
+    subsets: Vec<Subset>,
+}
+
+/// The stretch of blocks counted, all whole ones where there is none, and the bits.
+struct Subset {
+    stretch: Option<(usize, usize)>,
+    bits: Vec<usize>,
+}
+
+/// Each counted over all whole blocks.
+fn whole(subsets: Vec<Vec<usize>>) -> Vec<Subset> {
+    subsets.into_iter().map(|bits| Subset { stretch: None, bits }).collect()
+}
+
+/// Each counted over each of the stretches.
+fn in_stretches(stretches: &[(usize, usize)], subsets: &[&[usize]]) -> Vec<Subset> {
+    stretches.iter().flat_map(|stretch| subsets.iter().map(|bits| Subset { stretch: Some(*stretch), bits: bits.to_vec() })).collect()
 }
 
 fn main() {
@@ -19,16 +35,19 @@ fn main() {
     sheet.note("Cases of the counting crate. Made, with their answers, by `tools/answers/run counting REFERENCE`; no answer is our own program's.");
     sheet.note("Bits and bins of a block: the reference's bit_value_in_block and bits_block_eval.");
     sheet.note("Rows: its transform_data on the bytes held, each 128-wide word as two of 64, the low half first, up to the word of the last block.");
-    sheet.note("Counts: its multi_eval_neg for every bin, on transform_data and negate, and its multi_eval.");
+    sheet.note("Counts: its multi_eval_neg for every bin, on transform_data and negate of the blocks of the stretch alone, and its multi_eval. 99999999 alone where");
+    sheet.note("the stretch ends before it begins, or after the blocks that the rows hold.");
     sheet.note("Refusals and bytes held: the rules of start and feed, in a dozen lines of that tool, since the reference takes a recording whole.");
     sheet.note("Single blocks. Each: the number of bytes and the bytes; the number of bits and the bits.");
     block_cases(&mut sheet, &mut draws);
     let mut cases = edge_cases(&mut draws);
     cases.extend(counted_cases(&mut draws));
     cases.extend(long_cases(&mut draws));
+    cases.extend(stretch_cases(&mut draws));
+    cases.push(chunk_case(&mut draws));
     cases.extend(run::sample().filter_map(case_of_run));
     sheet.note("Samplers. Each: B and the number of lent words; the number of pieces, and for each its length and its bytes;");
-    sheet.note("where B is valid, the number of subsets, and for each its width and its bits.");
+    sheet.note("where B is valid, the number of subsets, and for each the first block and the end of a stretch, its width and its bits.");
     sheet.note(&run::note());
     sheet.case([cases.len()]);
     for case in &cases {
@@ -72,7 +91,7 @@ fn edge_cases(draws: &mut Draws) -> Vec<Case> {
     cases.push(Case { block_size: 0, words: 0, pieces: vec![vec![]], subsets: vec![] });
     // No whole word to a row: only an empty piece fits.
     for (block_size, words) in [(8, 0), (8, 7), (128, 127)] {
-        cases.push(Case { block_size, words, pieces: vec![vec![], vec![255], vec![]], subsets: vec![vec![0], vec![1, 2]] });
+        cases.push(Case { block_size, words, pieces: vec![vec![], vec![255], vec![]], subsets: whole(vec![vec![0], vec![1, 2]]) });
     }
     // A byte too many, the last byte that fits, one more, nothing more.
     for (block_size, words) in [(8, 8), (8, 15), (16, 40), (24, 47), (64, 64)] {
@@ -86,7 +105,7 @@ fn edge_cases(draws: &mut Draws) -> Vec<Case> {
     for (words, bytes) in [(4096, 1030), (4100, 512), (8191, 511)] {
         let recording = draws.bytes(bytes);
         let pieces = cut(draws, &recording, 3);
-        cases.push(Case { block_size: 4096, words, pieces, subsets: vec![vec![4095], vec![0, 2047, 2048, 4095]] });
+        cases.push(Case { block_size: 4096, words, pieces, subsets: whole(vec![vec![4095], vec![0, 2047, 2048, 4095]]) });
     }
     cases
 }
@@ -122,18 +141,59 @@ fn long_cases(draws: &mut Draws) -> Vec<Case> {
     cases
 }
 
-/// A short recording of the differential run, and the subset that the reference finds in it.
+/// Stretches from and to every place about the ends of words, some of no block; first above end, and past the rows.
+fn stretch_cases(draws: &mut Draws) -> Vec<Case> {
+    let mut cases = Vec::new();
+    for (kind, block_size, n) in [(2, 8, 130), (5, 8, 65), (0, 24, 130), (2, 64, 66)] {
+        let size = block_size / 8;
+        let recording = recording(draws, kind, n * size + size / 2);
+        let words = block_size * (n + 1).div_ceil(64) + draws.below(block_size);
+        let pieces = pieces(draws, block_size, words, &recording);
+        let mut places = vec![0, 1, 63, 64, 65, 127, 128, n];
+        places.retain(|place| *place <= n);
+        let mut stretches = Vec::new();
+        for (i, first) in places.iter().enumerate() {
+            stretches.extend(places[i..].iter().map(|end| (*first, *end)));
+        }
+        let held = 64 * (words / block_size);
+        stretches.extend([(1, 0), (65, 64), (n, 0), (0, held + 1), (held + 1, held + 1), (0, 1 << 32), (usize::MAX, 0), (0, usize::MAX)]);
+        let bits = [draws.subset(block_size, 1), draws.subset(block_size, 3)];
+        cases.push(Case { block_size, words, pieces, subsets: in_stretches(&stretches, &[&bits[0], &bits[1]]) });
+    }
+    cases
+}
+
+/// A recording longer than the marks of one chunk, which begins with the word of a stretch's first block. Each byte is one digit, to keep the file small.
+fn chunk_case(draws: &mut Draws) -> Case {
+    let recording: Vec<u8> = (0..33_000).map(|_| draws.below(10) as u8).collect();
+    let pieces = cut(draws, &recording, 3);
+    let stretches = [
+        (0, 33_000), (0, 32_767), (0, 32_768), (0, 32_769), (1, 32_768), (1, 32_769), (63, 32_769), (63, 32_831), (64, 32_831), (64, 32_832), (64, 32_833),
+        (65, 32_832), (65, 32_833), (127, 32_833), (128, 32_896), (128, 32_897), (129, 33_000), (32_704, 33_000), (32_767, 32_767), (32_767, 32_768),
+        (32_767, 32_769), (32_767, 33_000), (32_768, 32_768), (32_768, 32_769), (32_768, 33_000), (32_769, 32_769), (32_769, 33_000), (33_000, 33_000),
+        (32_769, 32_768),
+    ];
+    Case { block_size: 8, words: 8 * 516 + 3, pieces, subsets: in_stretches(&stretches, &[&[4], &[5, 7], &[4, 5, 6, 7]]) }
+}
+
+/// A short recording of the differential run, and the subset that the reference finds in it, counted over all blocks and over the drawn stretch where that is
+/// another of its blocks.
 fn case_of_run(case: run::Case) -> Option<Case> {
     let run::Case::Recording(drawn) = case else { return None };
     if drawn.bytes() > 200 || drawn.block_size > 128 || !drawn.searchable() || drawn.k > 8 {
         return None;
     }
-    let run::Recording { block_size, words, pieces, k, .. } = drawn;
-    let found = bottomup(&held(block_size, words, &pieces), block_size, k, 1).unwrap();
-    Some(Case { block_size, words, pieces, subsets: vec![found.bits] })
+    let another = drawn.within() && drawn.stretch != (0..drawn.blocks());
+    let run::Recording { block_size, words, pieces, stretch, k, .. } = drawn;
+    let bits = bottomup(&held(block_size, words, &pieces), block_size, k, 1).unwrap().bits;
+    let mut subsets = whole(vec![bits.clone()]);
+    if another {
+        subsets.push(Subset { stretch: Some((stretch.start, stretch.end)), bits });
+    }
+    Some(Case { block_size, words, pieces, subsets })
 }
 
-fn subsets(draws: &mut Draws, block_size: usize) -> Vec<Vec<usize>> {
+fn subsets(draws: &mut Draws, block_size: usize) -> Vec<Subset> {
     let mut subsets = vec![vec![0], vec![block_size - 1], vec![0, 1]];
     for k in [2, 3, 5] {
         subsets.push(draws.subset(block_size, k));
@@ -143,7 +203,7 @@ fn subsets(draws: &mut Draws, block_size: usize) -> Vec<Vec<usize>> {
     if block_size == 24 {
         subsets.push(draws.subset(block_size, 9));
     }
-    subsets
+    whole(subsets)
 }
 
 fn write_case(sheet: &mut Sheet, case: &Case) {
@@ -151,22 +211,31 @@ fn write_case(sheet: &mut Sheet, case: &Case) {
     if !valid(case.block_size) {
         return;
     }
+    let n = held.len() / (case.block_size / 8);
     sheet.case([case.subsets.len()]);
-    for subset in &case.subsets {
-        sheet.list(subset);
+    for Subset { stretch, bits } in &case.subsets {
+        let (first, end) = stretch.unwrap_or((0, n));
+        sheet.case([first, end, bits.len()].iter().chain(bits));
     }
     answer_counts(sheet, case, &held);
 }
 
 fn answer_counts(sheet: &mut Sheet, case: &Case, held: &[u8]) {
     let rows = transform_data(held, case.block_size);
-    let negated = negate(&rows);
     let n = rows.num_of_blocks();
     sheet.answer([n]);
     for bit in 0..case.block_size {
         sheet.answer((0..n.div_ceil(64)).map(|i| rows.word(bit, i)));
     }
-    for bits in &case.subsets {
+    let (size, stride) = (case.block_size / 8, case.words / case.block_size);
+    for Subset { stretch, bits } in &case.subsets {
+        let (first, end) = stretch.unwrap_or((0, n));
+        if first > end || end > 64 * stride {
+            sheet.answer([99_999_999]);
+            continue;
+        }
+        let rows = transform_data(&held[first * size..end * size], case.block_size);
+        let negated = negate(&rows);
         let bins = (0..1 << bits.len()).map(|bin| multi_eval_neg(bits, &rows, &negated, bin));
         sheet.answer(bins.chain([multi_eval(bits, &rows)]));
     }

@@ -24,13 +24,16 @@ pub enum Case {
 }
 
 impl Case {
-    /// A case of the run with a seed, drawn from the seed and its number alone. One of a thousand is a long recording.
+    /// A case of the run with a seed, drawn from the seed and its number alone. One of a thousand is a long recording. The stretch that is searched has
+    /// draws of its own, on which nothing else of a case depends.
     pub fn of_run(seed: u64, number: u64) -> Case {
-        let draws = &mut Draws::new(seed.wrapping_add(number.wrapping_mul(0xA076_1D64_78BD_642F)));
-        if number % 1000 == 999 {
-            return Case::Recording(Recording::long(draws));
+        let start = start_of(seed, number);
+        let draws = &mut Draws::new(start);
+        let case = if number % 1000 == 999 { Case::Recording(Recording::long(draws)) } else { Case::draw(draws) };
+        match case {
+            Case::Recording(drawn) => Case::Recording(drawn.whole_or_part(&mut Draws::new(!start))),
+            other => other,
         }
-        Case::draw(draws)
     }
 
     fn draw(draws: &mut Draws) -> Case {
@@ -43,6 +46,11 @@ impl Case {
             _ => Case::Plan(Plan::draw(draws)),
         }
     }
+}
+
+/// Where the draws of a case begin.
+pub fn start_of(seed: u64, number: u64) -> u64 {
+    seed.wrapping_add(number.wrapping_mul(0xA076_1D64_78BD_642F))
 }
 
 /// The run that is sampled, and how many of its cases: those that are short are stored.

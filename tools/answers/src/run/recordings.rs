@@ -1,14 +1,17 @@
 //! Recordings fed in pieces, with a search after them.
 
 use crate::{capacity_bytes, choose, cut, recording, Draws};
+use std::ops::Range;
 
-/// A block size, the number of lent words, the pieces, a width, and how many entries more than enough the buffers and the stores have:
-/// -1 is one too few. A stale sampler says a byte more than capacity.
+/// A block size, the number of lent words, the pieces, the stretch that is searched, a width, and how many entries more than enough the buffers and the
+/// stores have: -1 is one too few. A stale sampler says a byte more than capacity.
 #[derive(Clone, Debug)]
 pub struct Recording {
     pub block_size: usize,
     pub words: usize,
     pub pieces: Vec<Vec<u8>>,
+    /// From the first block to before the end; it may be none of the recording.
+    pub stretch: Range<usize>,
     pub k: usize,
     pub bins: isize,
     pub order: isize,
@@ -41,6 +44,7 @@ impl Recording {
             block_size,
             words,
             pieces,
+            stretch: 0..blocks,
             k: if draws.below(200) == 0 { [0, 9.max(block_size + 1), 21, 1 << 40][draws.below(4)] } else { k },
             bins: slack(draws),
             order: slack(draws),
@@ -60,7 +64,55 @@ impl Recording {
         let words = block_size * (blocks + 1).div_ceil(64);
         let pieces = cut(draws, &held, 3);
         let pieces = between(draws, pieces, capacity_bytes(block_size, words));
-        Recording { block_size, words, pieces, k: 1 + draws.below(3), bins: 0, order: 0, stores: [0, 1], stale: false }
+        Recording { block_size, words, pieces, stretch: 0..blocks, k: 1 + draws.below(3), bins: 0, order: 0, stores: [0, 1], stale: false }
+    }
+
+    /// One of few values or of a short period, so that scores tie, about a word's end long, or, one of thirty, a chunk's.
+    pub fn tied(draws: &mut Draws) -> Recording {
+        let (block_size, widest) = [(8, 5), (8, 3), (16, 3), (24, 2), (64, 2), (128, 1)][draws.below(6)];
+        let size = block_size / 8;
+        let blocks = match draws.below(15) {
+            0 if size <= 2 => [32_767, 32_768, 32_833, 33_000, 65_536, 65_602][draws.below(6)] + draws.below(3),
+            _ => [0, 2, 62, 64, 126, 128, 190][draws.below(7)] + draws.below(5),
+        };
+        let (rest, kind) = (draws.below(size), draws.below(8));
+        let bytes = blocks * size + rest;
+        let held = match kind {
+            0..=3 => recording(draws, [0, 3, 4, 5][kind], bytes),
+            _ => periodic(draws, bytes),
+        };
+        let words = block_size * ((blocks + 1).div_ceil(64) + draws.below(2)) + draws.below(block_size);
+        let pieces = cut(draws, &held, 3);
+        let pieces = between(draws, pieces, capacity_bytes(block_size, words));
+        let k = if draws.below(100) == 0 { [0, block_size + 1, 21][draws.below(3)] } else { 1 + draws.below(widest) };
+        let (bins, order, stores) = (slack(draws), slack(draws), [slack(draws), slack(draws)]);
+        Recording { block_size, words, pieces, stretch: 0..blocks, k, bins, order, stores, stale: draws.below(300) == 0 }
+    }
+
+    /// The same, searched whole or, as often, in a drawn stretch.
+    pub fn whole_or_part(self, draws: &mut Draws) -> Recording {
+        if draws.below(2) == 0 { self } else { self.in_part(draws) }
+    }
+
+    /// The same with a drawn stretch.
+    pub fn in_part(&self, draws: &mut Draws) -> Recording {
+        Recording { stretch: part(draws, self.blocks()), ..self.clone() }
+    }
+
+    /// The bytes of the pieces that are not refused.
+    pub fn taken(&self) -> usize {
+        let capacity = capacity_bytes(self.block_size, self.words);
+        self.pieces.iter().fold(0, |taken, piece| if taken + piece.len() <= capacity { taken + piece.len() } else { taken })
+    }
+
+    /// The whole blocks of these.
+    pub fn blocks(&self) -> usize {
+        self.taken() / (self.block_size / 8)
+    }
+
+    /// Whether the recording has the blocks of the stretch.
+    pub fn within(&self) -> bool {
+        self.stretch.start <= self.stretch.end && self.stretch.end <= self.blocks()
     }
 
     /// The bytes of all pieces, refused ones among them.
@@ -94,6 +146,42 @@ fn sizes(draws: &mut Draws, limit: usize) -> (usize, usize) {
 /// How much a direct search of a few blocks works, at the most.
 fn direct_work(block_size: usize, k: usize) -> usize {
     choose(block_size, k).saturating_mul(k + 4).saturating_mul(1 << k)
+}
+
+/// Places where counting begins or ends another word, or another chunk of 32,768 marks.
+const EDGES: [usize; 15] = [0, 1, 63, 64, 65, 127, 128, 129, 4096, 32_767, 32_768, 32_769, 65_535, 65_536, 65_537];
+
+/// A stretch of n blocks. Some hold no block, and some are refused: they end before they begin, or past n.
+fn part(draws: &mut Draws, n: usize) -> Range<usize> {
+    let (first, end) = (place(draws, n), place(draws, n));
+    match draws.below(20) {
+        0 => first..end,
+        1 => first.max(end) + 1..first.min(end),
+        2 => first..n + 1,
+        3 => first..[1 << 32, usize::MAX][draws.below(2)],
+        4 => n + draws.below(2)..n + draws.below(2),
+        5..=6 => first..first,
+        7..=8 => first..n,
+        9..=10 => 0..end,
+        _ => first.min(end)..first.max(end),
+    }
+}
+
+/// A place up to n, half of them edges.
+fn place(draws: &mut Draws, n: usize) -> usize {
+    let edges = EDGES.iter().take_while(|&&edge| edge <= n).count();
+    match draws.below(8) {
+        0 => n,
+        1..=4 => EDGES[draws.below(edges)],
+        _ => draws.below(n + 1),
+    }
+}
+
+/// A drawn period of one to nine bytes, of at most three values.
+fn periodic(draws: &mut Draws, bytes: usize) -> Vec<u8> {
+    let values = draws.bytes(3);
+    let period: Vec<u8> = (0..1 + draws.below(9)).map(|_| values[draws.below(3)]).collect();
+    period.into_iter().cycle().take(bytes).collect()
 }
 
 fn slack(draws: &mut Draws) -> isize {

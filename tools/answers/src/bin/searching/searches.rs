@@ -3,6 +3,8 @@
 use crate::binomial;
 use answers::*;
 
+mod stretches;
+
 /// A recording, and the searches made after it.
 struct Case {
     block_size: usize,
@@ -11,14 +13,16 @@ struct Case {
     searches: Vec<Search>,
 }
 
-/// The width, the lengths of the buffers and stores, and the sampler's three fields where it is not the one last returned.
+/// The stretch where it is not from 0 to the sampler's n, the width, the lengths of the buffers and stores, and the sampler's three fields where it is not the
+/// one last returned.
 #[derive(Clone)]
 struct Search {
+    stretch: Option<(usize, usize)>,
     k: usize,
     bins: usize,
     order: usize,
-    first: usize,
-    second: usize,
+    lower: usize,
+    upper: usize,
     sampler: Option<Sampler>,
 }
 
@@ -29,6 +33,13 @@ struct Sampler {
     taken: usize,
 }
 
+impl Sampler {
+    /// n; 0 where a block would have no byte.
+    fn blocks(self) -> usize {
+        self.taken.checked_div(self.block_size / 8).unwrap_or(0)
+    }
+}
+
 pub fn write(sheet: &mut Sheet, draws: &mut Draws) {
     let mut cases = examples();
     cases.extend(refused(draws));
@@ -37,10 +48,11 @@ pub fn write(sheet: &mut Sheet, draws: &mut Draws) {
     cases.extend(with_ties(draws));
     cases.extend(tied_divisions(draws));
     cases.extend(long(draws));
+    cases.extend(stretches::cases(draws));
     cases.extend(run::sample().filter_map(case_of_run));
-    sheet.note("Searches: the reference's bottomup on the bytes held, with threads = 1 for the direct and 0 for the layered search; the winner's counts by its evaluate_histogram.");
+    sheet.note("Searches: the reference's bottomup on the blocks of the stretch alone, with threads = 1 for the direct and 0 for the layered search; the winner's counts by its evaluate_histogram.");
     sheet.note("Refusals, and the entries W that a store needs, by the rules in that tool.");
-    sheet.note("Each: B and the number of lent words; the number of pieces, and for each its length and its bytes; the number of searches, and for each");
+    sheet.note("Each: B and the number of lent words; the number of pieces, and for each its length and its bytes; the number of searches, and for each first and end,");
     sheet.note("k, the lengths of bin buffer, order buffer and both stores, W (0 where the layered search is refused), and 0, or 1 with another sampler's B, words and T.");
     sheet.note("Answer: a line for the calls of start and feed; for each search, first direct, then layered: a line with refusal, B, width, 20 bits, division and the");
     sheet.note("pattern of z; a line with the counts, one with the order, and one with how many other entries of each buffer (and store, past W) are no longer as lent.");
@@ -60,7 +72,7 @@ fn store_entries(block_size: usize, k: usize) -> u128 {
 fn search(block_size: usize, k: usize, more: usize) -> Search {
     let m = 1 << k;
     let store = store_entries(block_size, k) as usize;
-    Search { k, bins: m + more, order: m + more, first: store + more, second: store + more, sampler: None }
+    Search { stretch: None, k, bins: m + more, order: m + more, lower: store + more, upper: store + more, sampler: None }
 }
 
 /// The searches of the rules' examples.
@@ -92,29 +104,29 @@ fn refused(draws: &mut Draws) -> Vec<Case> {
     let mut searches: Vec<Search> = bad.iter().map(|sampler| Search { sampler: Some(*sampler), ..good.clone() }).collect();
     // 4 before 2, 3, 6 and 7.
     for (k, bins, store) in [(0, 5, 16), (21, 5, 16), (9, 600, 5000), (3, 8, 1), (3, 7, 1000), (3, 7, 1)] {
-        searches.push(Search { k, bins, order: bins, first: store, second: store, sampler: Some(bad[6]) });
+        searches.push(Search { stretch: None, k, bins, order: bins, lower: store, upper: store, sampler: Some(bad[6]) });
     }
     // 2 alone, and before 6 and 7; a width above both limits is refused with 2.
     for (k, bins, store) in [(0, 5, 16), (21, 300, 5000), (usize::MAX, 300, 5000), (0, 0, 0), (21, 0, 0)] {
-        searches.push(Search { k, bins, order: bins, first: store, second: store, sampler: None });
+        searches.push(Search { stretch: None, k, bins, order: bins, lower: store, upper: store, sampler: None });
     }
     // 3 alone, and before 6 and 7.
     for (k, bins, store) in [(9, 600, 5000), (20, 600, 5000), (9, 600, 100), (9, 511, 5000), (9, 0, 0)] {
-        searches.push(Search { k, bins, order: bins, first: store, second: store, sampler: None });
+        searches.push(Search { stretch: None, k, bins, order: bins, lower: store, upper: store, sampler: None });
     }
     // 6: either store, by one entry or by all; then before 7.
-    for (first, second) in [(1792, 1792), (1791, 1792), (1792, 1791), (1791, 1791), (0, 1792), (1792, 0)] {
-        searches.push(Search { k: 8, bins: 257, order: 257, first, second, sampler: None });
+    for (lower, upper) in [(1792, 1792), (1791, 1792), (1792, 1791), (1791, 1791), (0, 1792), (1792, 0)] {
+        searches.push(Search { stretch: None, k: 8, bins: 257, order: 257, lower, upper, sampler: None });
     }
     for (bins, order) in [(255, 256), (256, 255)] {
-        searches.push(Search { k: 8, bins, order, first: 1791, second: 1792, sampler: None });
+        searches.push(Search { stretch: None, k: 8, bins, order, lower: 1791, upper: 1792, sampler: None });
     }
     // 7: either buffer, by one entry or by all.
     for (bins, order) in [(255, 256), (256, 255), (255, 255), (0, 256), (256, 0), (256, 256)] {
-        searches.push(Search { k: 8, bins, order, first: 1793, second: 1793, sampler: None });
+        searches.push(Search { stretch: None, k: 8, bins, order, lower: 1793, upper: 1793, sampler: None });
     }
     for (bins, order) in [(1, 2), (2, 1), (0, 0)] {
-        searches.push(Search { k: 1, bins, order, first: 17, second: 17, sampler: None });
+        searches.push(Search { stretch: None, k: 1, bins, order, lower: 17, upper: 17, sampler: None });
     }
     searches.push(good);
     cases.push(Case { block_size: 8, words: 17, pieces: held, searches });
@@ -122,7 +134,7 @@ fn refused(draws: &mut Draws) -> Vec<Case> {
     cases.push(Case { block_size: 12, words: 24, pieces: vec![vec![1]], searches: vec![search(8, 1, 1), Search { k: 0, ..search(8, 1, 0) }] });
     // W above 2^32, where buffers that are too short keep the direct search from starting.
     for (block_size, k) in [(128, 6), (512, 5), (4096, 4), (4096, 20)] {
-        let short = Search { k, bins: (1 << k.min(8)) - 1, order: 300, first: 5000, second: 5000, sampler: None };
+        let short = Search { stretch: None, k, bins: (1 << k.min(8)) - 1, order: 300, lower: 5000, upper: 5000, sampler: None };
         cases.push(Case { block_size, words: block_size, pieces: vec![draws.bytes(3)], searches: vec![short] });
     }
     cases
@@ -227,7 +239,8 @@ fn long(draws: &mut Draws) -> Vec<Case> {
     cases
 }
 
-/// A short recording of the differential run with its search, whose buffers and stores have one entry too few, just enough, or one or two more.
+/// A short recording of the differential run with its search, of all blocks and of the drawn stretch where that is another. Buffers and stores have one entry
+/// too few, just enough, or one or two more.
 fn case_of_run(case: run::Case) -> Option<Case> {
     let run::Case::Recording(drawn) = case else { return None };
     let (block_size, words, k) = (drawn.block_size, drawn.words, drawn.k);
@@ -240,10 +253,13 @@ fn case_of_run(case: run::Case) -> Option<Case> {
     let entries = |needed: usize, more: isize| (needed as isize + more) as usize;
     // Where the width is refused, any buffer will do.
     let m = if searchable { 1 << k } else { 2 };
-    let [first, second] = drawn.stores.map(|more| entries(store as usize, more));
+    let [lower, upper] = drawn.stores.map(|more| entries(store as usize, more));
     let past = Sampler { block_size, words, taken: capacity_bytes(block_size, words) + 1 };
-    let search = Search { k, bins: entries(m, drawn.bins), order: entries(m, drawn.order), first, second, sampler: drawn.stale.then_some(past) };
-    Some(Case { block_size, words, pieces: drawn.pieces, searches: vec![search] })
+    let search = Search { stretch: None, k, bins: entries(m, drawn.bins), order: entries(m, drawn.order), lower, upper, sampler: drawn.stale.then_some(past) };
+    let stretch = Some((drawn.stretch.start, drawn.stretch.end));
+    let whole = drawn.stretch == (0..drawn.blocks());
+    let searches = if whole { vec![search] } else { vec![search.clone(), Search { stretch, ..search }] };
+    Some(Case { block_size, words, pieces: drawn.pieces, searches })
 }
 
 fn write_case(sheet: &mut Sheet, case: &Case) {
@@ -257,6 +273,7 @@ fn write_case(sheet: &mut Sheet, case: &Case) {
     sheet.case([case.searches.len()]);
     for search in &case.searches {
         let sampler = search.sampler.unwrap_or(returned);
+        let (first, end) = search.stretch.unwrap_or((0, sampler.blocks()));
         // What the sampler says was taken; words that were not fed are zero.
         let taken = sampler.taken.min(1 << 16);
         let mut seen = held.clone();
@@ -265,13 +282,15 @@ fn write_case(sheet: &mut Sheet, case: &Case) {
         let layered = refusal(case, search, sampler, true);
         let free = if layered == 0 { store_entries(sampler.block_size, search.k) } else { 0 };
         let given = [sampler.block_size, sampler.words, sampler.taken];
-        let lengths = [search.k, search.bins, search.order, search.first, search.second, free as usize];
+        let lengths = [first, end, search.k, search.bins, search.order, search.lower, search.upper, free as usize];
         sheet.case(lengths.into_iter().chain(match search.sampler {
             None => vec![0],
             Some(_) => [vec![1], given.to_vec()].concat(),
         }));
-        answer(sheet, search, sampler, &seen, direct, 1);
-        answer(sheet, search, sampler, &seen, layered, 0);
+        let size = sampler.block_size / 8;
+        let blocks = if direct == 0 || layered == 0 { &seen[first * size..end * size] } else { &[] };
+        answer(sheet, search, sampler, blocks, direct, 1);
+        answer(sheet, search, sampler, blocks, layered, 0);
     }
 }
 
@@ -281,6 +300,9 @@ fn refusal(case: &Case, search: &Search, sampler: Sampler, layered: bool) -> usi
     if !valid(block_size) || sampler.words != case.words || sampler.taken > capacity_bytes(block_size, case.words) {
         return 4;
     }
+    if search.stretch.is_some_and(|(first, end)| first > end || end > sampler.blocks()) {
+        return 18;
+    }
     if k == 0 || k > 20 {
         return 2;
     }
@@ -288,7 +310,7 @@ fn refusal(case: &Case, search: &Search, sampler: Sampler, layered: bool) -> usi
         return 3;
     }
     let store = store_entries(block_size, k);
-    if layered && (store > 1 << 32 || (search.first as u128) < store || (search.second as u128) < store) {
+    if layered && (store > 1 << 32 || (search.lower as u128) < store || (search.upper as u128) < store) {
         return 6;
     }
     if search.bins < 1 << k || search.order < 1 << k {
@@ -297,7 +319,7 @@ fn refusal(case: &Case, search: &Search, sampler: Sampler, layered: bool) -> usi
     0
 }
 
-fn answer(sheet: &mut Sheet, search: &Search, sampler: Sampler, seen: &[u8], refusal: usize, threads: usize) {
+fn answer(sheet: &mut Sheet, search: &Search, sampler: Sampler, blocks: &[u8], refusal: usize, threads: usize) {
     let unchanged = if threads == 0 { vec![0; 4] } else { vec![0; 2] };
     if refusal != 0 {
         // Every field 0, no counts, no order, and all entries as lent.
@@ -307,13 +329,13 @@ fn answer(sheet: &mut Sheet, search: &Search, sampler: Sampler, seen: &[u8], ref
         sheet.answer(unchanged);
         return;
     }
-    let finding = bottomup(seen, sampler.block_size, search.k, threads).unwrap();
+    let finding = bottomup(blocks, sampler.block_size, search.k, threads).unwrap();
     let mut line = vec![0, finding.block_size as u64, finding.bits.len() as u64];
     line.extend(finding.bits.iter().map(|bit| *bit as u64));
     line.resize(23, 0);
     line.extend([finding.division as u64, finding.z.to_bits()]);
     sheet.answer(line);
-    sheet.answer(evaluate_histogram(&finding, seen).bins);
+    sheet.answer(evaluate_histogram(&finding, blocks).bins);
     sheet.answer(finding.order);
     sheet.answer(unchanged);
 }

@@ -1,0 +1,100 @@
+//! Searches of stretches: from and to the ends of words and of chunks, of no block, and refused ones.
+
+use super::*;
+
+pub fn cases(draws: &mut Draws) -> Vec<Case> {
+    let mut cases = at_ends_of_words(draws);
+    cases.push(refused(draws));
+    cases.push(other_samplers(draws));
+    cases.push(at_ends_of_chunks(draws));
+    cases
+}
+
+fn in_stretch(first: usize, end: usize, search: Search) -> Search {
+    Search { stretch: Some((first, end)), ..search }
+}
+
+/// Every pair of places about the ends of words, of the recording and past it; of those in which the first is above the end only neighbours.
+fn at_ends_of_words(draws: &mut Draws) -> Vec<Case> {
+    let mut cases = Vec::new();
+    for (kind, block_size, n) in [(0, 8, 130), (5, 8, 65), (3, 16, 130), (5, 24, 66)] {
+        let size = block_size / 8;
+        let bytes = n * size + draws.below(size);
+        let recording = recording(draws, kind, bytes);
+        let words = block_size * (n + 1).div_ceil(64) + draws.below(block_size);
+        let pieces = pieces(draws, block_size, words, &recording);
+        let mut places = vec![0, 1, 63, 64, 65, 127, 128, n, n + 1];
+        places.retain(|place| *place <= n + 1);
+        places.dedup();
+        let mut searches = Vec::new();
+        for (i, first) in places.iter().enumerate() {
+            for (j, end) in places.iter().enumerate() {
+                if i <= j + 1 {
+                    searches.push(in_stretch(*first, *end, search(block_size, 1 + (i + j) % 3, j % 2)));
+                }
+            }
+        }
+        cases.push(Case { block_size, words, pieces, searches });
+    }
+    cases
+}
+
+/// 18 in every way, and with a second fault before which or after which it comes.
+fn refused(draws: &mut Draws) -> Case {
+    let good = search(8, 2, 1);
+    let (large, largest) = (1 << 32, usize::MAX);
+    let mut searches = Vec::new();
+    // n is 29. What a stretch of 2^32 and more would be in 32 bits is within it.
+    for (first, end) in [(1, 0), (29, 28), (30, 29), (0, 30), (29, 30), (30, 30), (30, 31)] {
+        searches.push(in_stretch(first, end, good.clone()));
+    }
+    for (first, end) in [(0, large), (large, large), (large, 0), (large, 29), (large, large + 5), (large + 5, 7), (0, largest), (largest, largest), (largest, 0)] {
+        searches.push(in_stretch(first, end, good.clone()));
+    }
+    for (first, end) in [(2, 1), (0, 30)] {
+        // Before 2, 3, 6 and 7.
+        for (k, bins, store) in [(0, 5, 16), (21, 5, 16), (9, 600, 5000), (3, 8, 1), (3, 7, 1000), (3, 7, 1), (0, 0, 0)] {
+            searches.push(in_stretch(first, end, Search { k, bins, order: bins, lower: store, upper: store, ..good.clone() }));
+        }
+        // After 4.
+        for (block_size, words, taken) in [(12, 17, 29), (8, 16, 29), (8, 17, 129), (0, 17, 29)] {
+            let sampler = Some(Sampler { block_size, words, taken });
+            searches.push(in_stretch(first, end, Search { sampler, ..good.clone() }));
+        }
+    }
+    // Within it, where the later refusals come as they did.
+    for (k, bins, store) in [(0, 5, 16), (9, 600, 5000), (3, 8, 1), (3, 7, 1000), (3, 8, 1000)] {
+        searches.push(in_stretch(3, 29, Search { k, bins, order: bins, lower: store, upper: store, ..good.clone() }));
+    }
+    Case { block_size: 8, words: 17, pieces: vec![draws.bytes(21), draws.bytes(8)], searches }
+}
+
+/// A sampler that says fewer or more bytes than were fed: n goes by what it says. 64 bytes are fed, 256 are capacity.
+fn other_samplers(draws: &mut Draws) -> Case {
+    let (block_size, words) = (16, 35);
+    let mut searches = Vec::new();
+    for (taken, first, end) in [
+        (21, 0, 10), (21, 3, 10), (21, 0, 11), (0, 0, 0), (0, 0, 1), (1, 0, 1), (65, 30, 32), (65, 0, 33), (66, 0, 33), (66, 32, 33),
+        (255, 0, 127), (255, 0, 128), (256, 20, 128), (256, 63, 65), (256, 64, 128), (256, 128, 128), (256, 0, 129),
+    ] {
+        let sampler = Some(Sampler { block_size, words, taken });
+        searches.push(in_stretch(first, end, Search { sampler, ..search(block_size, 2, 1) }));
+    }
+    Case { block_size, words, pieces: vec![recording(draws, 5, 64)], searches }
+}
+
+/// A recording longer than the marks of one chunk, which begins with the word of a stretch's first block. Each byte is one digit, to keep the file small;
+/// at width 5 the four bits that are never set are chosen with one that is.
+fn at_ends_of_chunks(draws: &mut Draws) -> Case {
+    let recording: Vec<u8> = (0..33_000).map(|t| if t % 32_768 < 2 { 9 } else { draws.below(8) as u8 }).collect();
+    let pieces = cut(draws, &recording, 3);
+    let places = [
+        (0, 32_767), (0, 32_768), (0, 32_769), (1, 32_768), (1, 32_769), (63, 32_769), (63, 32_831), (64, 32_831), (64, 32_832), (64, 32_833), (65, 32_832),
+        (65, 32_833), (127, 32_833), (128, 32_896), (128, 32_897), (129, 33_000), (32_704, 33_000), (32_767, 32_767), (32_767, 32_768), (32_767, 32_769),
+        (32_767, 33_000), (32_768, 32_768), (32_768, 32_769), (32_768, 33_000), (32_769, 32_769), (32_769, 33_000), (33_000, 33_000), (32_769, 32_768),
+        (32_768, 33_001),
+    ];
+    let mut searches = vec![search(8, 5, 1)];
+    searches.extend(places.map(|(first, end)| in_stretch(first, end, search(8, 5, 1))));
+    Case { block_size: 8, words: 8 * 516 + 3, pieces, searches }
+}
