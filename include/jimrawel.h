@@ -10,7 +10,7 @@
      only where both are const. An empty slice may have any aligned address that is not null. Nothing is kept after a call
      returns, nothing is allocated, nothing is shared between calls: calls may run at the same time where no slice that one of
      them writes overlaps a slice of the other. A thread with 128 KB of stack can make every call: this is measured, not proved
-     (differential/README.md, "The stack"). The direct search takes the most, 88 KB at width 20; no other call takes 40 KB.
+     (differential/README.md, "The stack"). The direct search takes the most, 89 KB at width 20; no other call takes 40 KB.
    - Each call takes any numbers at all. What it cannot take it refuses: the result is the number of the first refusal that
      applies, in the order given at the call, and 0 where there is none (enum jimrawel_refusal). jimrawel_blocks and
      jimrawel_longest_text alone refuse nothing and return a number of blocks, and of bytes.
