@@ -115,7 +115,7 @@ span-more a b w le near h =
 
 module _ (x : Stretch) (within : Within x) (m : ℕ) (begun : x .first < 64 * m + 64) (before : 64 * m < x .end) where
   pub chunk-in : ChunkIn (chunkAt x m)
-  chunk-in = (omega arith, omega arith, omega arith, omega arith, omega arith)
+  chunk-in = ((omega arith, omega arith, omega arith), omega arith, omega arith)
 
   -- its blocks come behind those of the chunks before it
   pub chunk-more : (words bits : List ℕ) (v : ℕ)

@@ -19,7 +19,10 @@ chunkBit c ws = onward (64 * c .start + c .skip) (storedBit (c .stride) ws)
 abbrev pub chunkBlocks : Chunk → ℕ
 chunkBlocks c = c .lanes - c .skip
 
--- it lies in the rows and its blocks fit a count; no more lanes than 512 words have, and none is skipped but in the first word
+-- n lanes from word `start` on lie in rows of S words, their blocks fit a count, and 512 words have as many
+abbrev pub LanesIn : ℕ → ℕ → ℕ → Type 0
+LanesIn S start n = (64 * start + n ≤ 64 * S) × (64 * start + n ≤ 16777216) × (n ≤ 32768)
+
+-- so do those of a chunk, and none is skipped but in the first word
 abbrev pub ChunkIn : Chunk → Type 0
-ChunkIn c =
-    (64 * c .start + c .lanes ≤ 64 * c .stride) × (64 * c .start + c .lanes ≤ 16777216) × (c .lanes ≤ 32768) × (c .skip ≤ c .lanes) × (c .skip < 64)
+ChunkIn c = LanesIn (c .stride) (c .start) (c .lanes) × (c .skip ≤ c .lanes) × (c .skip < 64)

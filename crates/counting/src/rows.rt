@@ -5,7 +5,7 @@ ghost use Prim.Native.Nat.{ℕ, _+_, _*_, _^_, _≤_, _<_};
 ghost use lib.Bits.{bitAnd};
 ghost use lib.ListN.{length, getD, replicate};
 ghost use Rattle.counting.specs.Sample.{onward, allSet, countsOf};
-ghost use Rattle.counting.specs.Chunk.{ChunkIn, chunkBit, chunkBlocks};
+ghost use Rattle.counting.specs.Chunk.{LanesIn, ChunkIn, chunkBit, chunkBlocks};
 ghost use Rattle.counting.specs.Stretch.{Within, span, stretchBit};
 ghost use Rattle.counting.specs.Tally.{laneOf, wordAt, wordWith};
 ghost use Rattle.counting.specs.Words.{storedBit};
@@ -45,7 +45,16 @@ pub fn multi_eval_neg(bits: &[u32], words: &[u64], stretch: Stretch, bins: &mut 
     let mut start = stretch.first / 64;
     let mut acc = marked_from(stretch.first % 64);
     while 64 * start < end {
-        add_bins(&acc, words, chunk_at(stretch, start), bits, bins);
+        let chunk = chunk_at(stretch, start);
+        add_bins(
+            &acc,
+            words,
+            chunk.stride,
+            chunk.start,
+            chunk.lanes,
+            bits,
+            bins,
+        );
         // Only the first chunk may begin inside a word.
         acc[0] = u64::MAX;
         start += 512;
@@ -160,42 +169,68 @@ fn add_each(acc: &[u64], next: usize, words: &[u64], chunk: Chunk, counts: &mut 
 
 // Adds to each bin of the bits the marked blocks in it. By the last bit, so that a bin with and one without it are half the bins
 // apart: the marks of either half are ANDed once for all its bins, and every bin is counted from rows.
-fn add_bins(acc: &[u64], words: &[u64], chunk: Chunk, bits: &[u32], bins: &mut [u32])
+fn add_bins(
+    acc: &[u64],
+    words: &[u64],
+    stride: usize,
+    start: usize,
+    n: usize,
+    bits: &[u32],
+    bins: &mut [u32],
+)
     requires { ⌜ (1 ≤ length (now bits)) × (length (now bits) ≤ 20) × (length (now bins) ≡ 2 ^ length (now bits)) ⌝ }
-    requires { ⌜ RowsIn (now words) (chunk .stride) (now bits) ⌝ }
-    requires { ⌜ ChunkIn chunk × (512 ≤ length (now acc)) ⌝ }
-    requires { ⌜ CountRoom (chunk .lanes) (now bins) ⌝ }
-    ensures { λ _. ⌜ ((v : ℕ) → v < length (now (bins .entry)) → getD (now (bins .exit)) v 0 ≡ getD (now (bins .entry)) v 0 + markedIn (laneOf (wordAt (now (acc .entry)))) (onward (64 * chunk .start) (storedBit (chunk .stride) (now (words .entry)))) (now (bits .entry)) (chunk .lanes) v) ⌝ }
+    requires { ⌜ RowsIn (now words) stride (now bits) ⌝ }
+    requires { ⌜ LanesIn stride start n × (512 ≤ length (now acc)) ⌝ }
+    requires { ⌜ CountRoom n (now bins) ⌝ }
+    ensures { λ _. ⌜ ((v : ℕ) → v < length (now (bins .entry)) → getD (now (bins .exit)) v 0 ≡ getD (now (bins .entry)) v 0 + markedIn (laneOf (wordAt (now (acc .entry)))) (onward (64 * start) (storedBit stride (now (words .entry)))) (now (bits .entry)) n v) ⌝ }
 {
-    let stride = chunk.stride;
-    let start = chunk.start;
-    let n = chunk.lanes;
     let last = bits.len() - 1;
     let at = bits[last] as usize * stride + start;
     let end = at + (n + 63) / 64;
     if last < 2 {
-        add_few(acc, words, chunk, bits, bins);
+        add_few(acc, words, stride, start, n, bits, bins);
         return;
     }
     let half = bins.len() / 2;
     let mut part = all_marked();
     and_to(&mut part, acc, &words[at..end], 0);
-    add_bins(&part, words, chunk, &bits[..last], &mut bins[half..]);
+    add_bins(
+        &part,
+        words,
+        stride,
+        start,
+        n,
+        &bits[..last],
+        &mut bins[half..],
+    );
     and_to(&mut part, acc, &words[at..end], u64::MAX);
-    add_bins(&part, words, chunk, &bits[..last], &mut bins[..half]);
+    add_bins(
+        &part,
+        words,
+        stride,
+        start,
+        n,
+        &bits[..last],
+        &mut bins[..half],
+    );
 }
 
 // The same for one bit or two, with no marks between.
-fn add_few(acc: &[u64], words: &[u64], chunk: Chunk, bits: &[u32], bins: &mut [u32])
+fn add_few(
+    acc: &[u64],
+    words: &[u64],
+    stride: usize,
+    start: usize,
+    n: usize,
+    bits: &[u32],
+    bins: &mut [u32],
+)
     requires { ⌜ (1 ≤ length (now bits)) × (length (now bits) ≤ 2) × (length (now bins) ≡ 2 ^ length (now bits)) ⌝ }
-    requires { ⌜ RowsIn (now words) (chunk .stride) (now bits) ⌝ }
-    requires { ⌜ ChunkIn chunk × (512 ≤ length (now acc)) ⌝ }
-    requires { ⌜ CountRoom (chunk .lanes) (now bins) ⌝ }
-    ensures { λ _. ⌜ ((v : ℕ) → v < length (now (bins .entry)) → getD (now (bins .exit)) v 0 ≡ getD (now (bins .entry)) v 0 + markedIn (laneOf (wordAt (now (acc .entry)))) (onward (64 * chunk .start) (storedBit (chunk .stride) (now (words .entry)))) (now (bits .entry)) (chunk .lanes) v) ⌝ }
+    requires { ⌜ RowsIn (now words) stride (now bits) ⌝ }
+    requires { ⌜ LanesIn stride start n × (512 ≤ length (now acc)) ⌝ }
+    requires { ⌜ CountRoom n (now bins) ⌝ }
+    ensures { λ _. ⌜ ((v : ℕ) → v < length (now (bins .entry)) → getD (now (bins .exit)) v 0 ≡ getD (now (bins .entry)) v 0 + markedIn (laneOf (wordAt (now (acc .entry)))) (onward (64 * start) (storedBit stride (now (words .entry)))) (now (bits .entry)) n v) ⌝ }
 {
-    let stride = chunk.stride;
-    let start = chunk.start;
-    let n = chunk.lanes;
     let m = (n + 63) / 64;
     let low = bits[0] as usize * stride + start;
     let low_end = low + m;

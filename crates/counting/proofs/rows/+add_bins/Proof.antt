@@ -21,7 +21,7 @@ use Rattle.counting.proofs.rows.+add_bins.{statement}
 use Rattle.counting.proofs.rows.+add_bins.Tie.{close}
 
 abbrev μ-add-bins : Measures 4 add-bins-kinds.ps ℕ
-μ-add-bins κs a = length (a .1 .1 .1 .0 .now)
+μ-add-bins κs a = length (a .1 .1 .1 .1 .1 .0 .now)
 
 abbrev add-bins-at : ℕ → In 4 add-bins-kinds.ps
 add-bins-at t = and 4 add-bins-kinds.ps (is 4 add-bins-kinds.ps μ-add-bins t) add-bins.Pre
@@ -47,7 +47,7 @@ sized : (t : ℕ) (s : Entry t)
 sized t s = half-size (s .args .bits .now) (length (s .args .bins .now)) (s .pre .1 .0 .0) (s .pre .1 .0 .2)
 
 -- the row of the last bit
-row : (t : ℕ) (s : Entry t) → getD (s .args .bits .now) (length (s .args .bits .now) - 1) 0 * s .args .chunk .stride + s .args .chunk .stride ≤ length (s .args .words .now)
+row : (t : ℕ) (s : Entry t) → getD (s .args .bits .now) (length (s .args .bits .now) - 1) 0 * s .args .stride + s .args .stride ≤ length (s .args .words .now)
 row t s = s .pre .1 .1 .0 (length (s .args .bits .now) - 1) (omega (arith, sized t s .0))
 
 -- the bits before the last
@@ -59,9 +59,9 @@ init-power t s = sized t s .1 ∙ ap (λ (k : ℕ). 2 ^ k) (sym (init-size t s))
 
 -- as far as the chunk goes
 abbrev first : (t : ℕ) → Entry t → ℕ
-first t s = getD (s .args .bits .now) (length (s .args .bits .now) - 1) 0 * s .args .chunk .stride + s .args .chunk .start
+first t s = getD (s .args .bits .now) (length (s .args .bits .now) - 1) 0 * s .args .stride + s .args .start
 
-part-size : (t : ℕ) (s : Entry t) → length (partAt (s .args .words .now) (first t s) ((s .args .chunk .lanes + 63) / 64)) ≡ (s .args .chunk .lanes + 63) / 64
+part-size : (t : ℕ) (s : Entry t) → length (partAt (s .args .words .now) (first t s) ((s .args .n + 63) / 64)) ≡ (s .args .n + 63) / 64
 part-size t s = simp (length-take, length-drop) (omega (arith, row t s, s .pre .1 .1 .1 .0))
 
 add-bins-sub-last : (t : ℕ) → add-bins-lts.Need-sub-last (calls t) (add-bins-at t) add-bins.Post
@@ -170,8 +170,8 @@ add-bins-add-bins-requires t c κs =
       (
         (omega (arith, init-size t s, c .before .before .before .before .before .before .before .before .if1 .left), omega (arith, s .pre .1 .0, init-size t s), upper-size (a .bins .now) half (sized t s .2) ∙ init-power t s),
         (
-          rows-init (a .words .now) (a .chunk .stride) (a .bits .now) (length (a .bits .now) - 1) (s .pre .1 .1 .0),
-          ((s .pre .1 .1 .1 .0 .0, omega (arith, c .before .before .before .before .and-to .kept .0, c .before .before .before .before .before .before .before .all-marked .ensures .0)), room-upper (a .chunk .lanes) half (length (a .bins .now) - half) (a .bins .now) (s .pre .1 .1 .1 .1)),
+          rows-init (a .words .now) (a .stride) (a .bits .now) (length (a .bits .now) - 1) (s .pre .1 .1 .0),
+          ((s .pre .1 .1 .1 .0 .0, omega (arith, c .before .before .before .before .and-to .kept .0, c .before .before .before .before .before .before .before .all-marked .ensures .0)), room-upper (a .n) half (length (a .bins .now) - half) (a .bins .now) (s .pre .1 .1 .1 .1)),
         ),
       ),
     )
@@ -208,33 +208,28 @@ add-bins-slice-aggregate-add-bins-4 : (t : ℕ) → add-bins-lts.Need-slice-aggr
 add-bins-slice-aggregate-add-bins-4 t c = sym (init-size t (start t (c .before .before .before .before .before .before .before .before)))
 
 add-bins-slice-relend-prefix-add-bins : (t : ℕ) → add-bins-lts.Need-slice-relend-prefix-add-bins (calls t) (add-bins-at t) add-bins.Post
-add-bins-slice-relend-prefix-add-bins t c =
-    let s = start t (c .before .before .before .before .before .before .before .before) in
-    let bins = s .args .bins .now in
-    let half = length bins / 2 in
-    let upper = c .before .before .before .before .before .before .before .before .add-bins in
-    omega (arith, same-len-mid half (length bins - half) bins (upper .last .1 .1 .1 .1 .0) (upper .kept .1 .1 .1 .1 .0))
+add-bins-slice-relend-prefix-add-bins t c = search needs
 
 add-bins-slice-aggregate-add-bins-5 : (t : ℕ) → add-bins-lts.Need-slice-aggregate-add-bins-5 (calls t) (add-bins-at t) add-bins.Post
 add-bins-slice-aggregate-add-bins-5 t c =
     let s = start t (c .before .before .before .before .before .before .before .before .before) in
-    sym (lower-size (s .args .bins .now) (c .before .before .before .before .before .before .before .before .before .add-bins .last .1 .1 .1 .1 .0) (length (s .args .bins .now) / 2) (length (s .args .bins .now) - length (s .args .bins .now) / 2) (sized t s .2))
+    sym (lower-size (s .args .bins .now) (c .before .before .before .before .before .before .before .before .before .add-bins .last .1 .1 .1 .1 .1 .1 .0) (length (s .args .bins .now) / 2) (length (s .args .bins .now) - length (s .args .bins .now) / 2) (sized t s .2))
 
 add-bins-add-bins-requires-2 : (t : ℕ) → add-bins-lts.Need-add-bins-requires-2 (calls t) (add-bins-at t) add-bins.Post
 add-bins-add-bins-requires-2 t c κs =
     let s = start t (c .before .before .before .before .before .before .before .before .before) in
     let a = s .args in
     let half = length (a .bins .now) / 2 in
-    let upper = c .before .before .before .before .before .before .before .before .before .add-bins .last .1 .1 .1 .1 .0 in
+    let upper = c .before .before .before .before .before .before .before .before .before .add-bins .last .1 .1 .1 .1 .1 .1 .0 in
     let fits : half ≤ length (a .bins .now) = omega arith in (
       omega (arith, s .pre .0, sized t s .0, init-size t s),
       (
         (omega (arith, init-size t s, c .before .before .before .before .before .before .before .before .before .before .before .before .before .before .before .before .before .before .if1 .left), omega (arith, s .pre .1 .0, init-size t s), lower-size (a .bins .now) upper half (length (a .bins .now) - half) (sized t s .2) ∙ init-power t s),
         (
-          rows-init (a .words .now) (a .chunk .stride) (a .bits .now) (length (a .bits .now) - 1) (s .pre .1 .1 .0),
+          rows-init (a .words .now) (a .stride) (a .bits .now) (length (a .bits .now) - 1) (s .pre .1 .1 .0),
           (
             (s .pre .1 .1 .1 .0 .0, omega (arith, c .before .before .before .before .and-to2 .kept .0, c .before .before .before .before .before .before .before .before .before .before .before .before .before .before .and-to .kept .0, c .before .before .before .before .before .before .before .before .before .before .before .before .before .before .before .before .before .all-marked .ensures .0)),
-            room-lower (a .chunk .lanes) half (length (a .bins .now) - half) (a .bins .now) upper fits (s .pre .1 .1 .1 .1),
+            room-lower (a .n) half (length (a .bins .now) - half) (a .bins .now) upper fits (s .pre .1 .1 .1 .1),
           ),
         ),
       ),
@@ -247,8 +242,8 @@ add-bins-same-length-2 t c =
     let half = length bins / 2 in
     let upper = c .before .before .before .before .before .before .before .before .before .before .before .before .add-bins in
     let lower = c .before .before .add-bins2 in
-    length-front (putMid half (length bins - half) bins (upper .last .1 .1 .1 .1 .0)) (lower .last .1 .1 .1 .1 .0) half (lower .kept .1 .1 .1 .1 .0)
-    ∙ same-len-mid half (length bins - half) bins (upper .last .1 .1 .1 .1 .0) (upper .kept .1 .1 .1 .1 .0)
+    length-front (putMid half (length bins - half) bins (upper .last .1 .1 .1 .1 .1 .1 .0)) (lower .last .1 .1 .1 .1 .1 .1 .0) half (lower .kept .1 .1 .1 .1 .1 .1 .0)
+    ∙ same-len-mid half (length bins - half) bins (upper .last .1 .1 .1 .1 .1 .1 .0) (upper .kept .1 .1 .1 .1 .1 .1 .0)
 
 add-bins-returns-2 : (t : ℕ) → add-bins-lts.Need-returns-2 (calls t) (add-bins-at t) add-bins.Post
 add-bins-returns-2 t c =
@@ -258,10 +253,10 @@ add-bins-returns-2 t c =
     let lower = c .before .before .add-bins2 in
     let marks = c .before .before .before .before .before .before .before .before .before .before .before .before .before .before .before .before .before .and-to in
     let marks′ = c .before .before .before .before .before .before .before .and-to2 in
-    halves (a .words .now) (a .chunk .stride) (a .chunk .start) (a .chunk .lanes) (a .bits .now) (length (a .bits .now) - 1) (first t s) (sized t s .0) refl (wordAt (a .acc .now))
-    (a .bins .now) (upper .last .1 .1 .1 .1 .0) (lower .last .1 .1 .1 .1 .0) (wordAt (marks .last .0)) (wordAt (marks′ .last .0)) (length (a .bins .now) / 2) (sized t s .1) (sized t s .2)
+    halves (a .words .now) (a .stride) (a .start) (a .n) (a .bits .now) (length (a .bits .now) - 1) (first t s) (sized t s .0) refl (wordAt (a .acc .now))
+    (a .bins .now) (upper .last .1 .1 .1 .1 .1 .1 .0) (lower .last .1 .1 .1 .1 .1 .1 .0) (wordAt (marks .last .0)) (wordAt (marks′ .last .0)) (length (a .bins .now) / 2) (sized t s .1) (sized t s .2)
     (omega (arith, row t s, s .pre .1 .1 .1 .0))
-    (upper .kept .1 .1 .1 .1 .0) (lower .kept .1 .1 .1 .1 .0) (λ u l. omega (arith, marks .ensures u l)) (λ u l. omega (arith, marks′ .ensures u l)) (upper .ensures) (lower .ensures)
+    (upper .kept .1 .1 .1 .1 .1 .1 .0) (lower .kept .1 .1 .1 .1 .1 .1 .0) (λ u l. omega (arith, marks .ensures u l)) (λ u l. omega (arith, marks′ .ensures u l)) (upper .ensures) (lower .ensures)
 
 pub +add-bins-spec : {M : Type 1} → statement M
 +add-bins-spec = close μ-add-bins λ t. add-bins-lts.spec (calls t)

@@ -11,18 +11,18 @@ use Rattle.counting.proofs.rows.add_few.Statement.{statement}
 use Rattle.counting.proofs.rows.add_few.Tie as tie
 
 -- a row of the bits
-row : (s : tie.Start) (i : ℕ) → i < length (s .args .bits .now) → getD (s .args .bits .now) i 0 * s .args .chunk .stride + s .args .chunk .stride ≤ length (s .args .words .now)
+row : (s : tie.Start) (i : ℕ) → i < length (s .args .bits .now) → getD (s .args .bits .now) i 0 * s .args .stride + s .args .stride ≤ length (s .args .words .now)
 row s i h = s .pre .1 .0 i h
 
 -- where it begins
 abbrev first : tie.Start → ℕ → ℕ
-first s i = getD (s .args .bits .now) i 0 * s .args .chunk .stride + s .args .chunk .start
+first s i = getD (s .args .bits .now) i 0 * s .args .stride + s .args .start
 
 -- as far as the chunk goes
 part-size : (s : tie.Start) (i : ℕ) → i < length (s .args .bits .now)
-    → (first s i + (s .args .chunk .lanes + 63) / 64 ≤ length (s .args .words .now)) × (length (partAt (s .args .words .now) (first s i) ((s .args .chunk .lanes + 63) / 64)) ≡ (s .args .chunk .lanes + 63) / 64)
+    → (first s i + (s .args .n + 63) / 64 ≤ length (s .args .words .now)) × (length (partAt (s .args .words .now) (first s i) ((s .args .n + 63) / 64)) ≡ (s .args .n + 63) / 64)
 part-size s i h =
-    let fits : first s i + (s .args .chunk .lanes + 63) / 64 ≤ length (s .args .words .now) = omega (arith, row s i h, s .pre .1 .1 .0) in
+    let fits : first s i + (s .args .n + 63) / 64 ≤ length (s .args .words .now) = omega (arith, row s i h, s .pre .1 .1 .0) in
     (fits, simp (length-take, length-drop) (omega arith))
 
 power : (s : tie.Start) (k : ℕ) → length (s .args .bits .now) ≡ k → length (s .args .bins .now) ≡ 2 ^ k
@@ -84,7 +84,7 @@ returns c =
     let s = c .before .before .before .before .before .before .before .before .before .before .before in
     let a = s .args in
     let one : length (a .bits .now) ≡ 1 = c .before .before .before .before .before .if1 .taken in
-    two-bins (a .words .now) (a .chunk .stride) (a .chunk .start) (a .chunk .lanes) (a .bits .now) 0 _ one refl (wordAt (a .acc .now)) (a .bins .now) (c .before .before .add-two .last .1 .1 .1 .0) refl (power s 1 one)
+    two-bins (a .words .now) (a .stride) (a .start) (a .n) (a .bits .now) 0 _ one refl (wordAt (a .acc .now)) (a .bins .now) (c .before .before .add-two .last .1 .1 .1 .0) refl (power s 1 one)
     (c .before .before .add-two .ensures)
 
 shared-slice-read-high : tie.Need-shared-slice-read-high
@@ -166,7 +166,7 @@ returns-2 c =
     let more = c .before .before .before .before .before .before .before .if1 .left in
     let a = s .args in
     let k : length (a .bits .now) ≡ 2 = omega (arith, s .pre .0) in
-    four-bins (a .words .now) (a .chunk .stride) (a .chunk .start) (a .chunk .lanes) (a .bits .now) _ _ k refl refl (part-size s 1 (omega arith) .0) (wordAt (a .acc .now)) (a .bins .now) (c .before .before .add-four .last .1 .1 .1 .1 .0) (power s 2 k)
+    four-bins (a .words .now) (a .stride) (a .start) (a .n) (a .bits .now) _ _ k refl refl (part-size s 1 (omega arith) .0) (wordAt (a .acc .now)) (a .bins .now) (c .before .before .add-four .last .1 .1 .1 .1 .0) (power s 2 k)
     (c .before .before .add-four .ensures .0) (c .before .before .add-four .ensures .1)
 
 pub add-few-spec : {M : Type 1} → statement M

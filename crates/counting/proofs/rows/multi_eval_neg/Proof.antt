@@ -63,7 +63,7 @@ slice-aggregate-add-bins : tie.Need-slice-aggregate-add-bins Inv-loop μ-loop
 slice-aggregate-add-bins c = search needs
 
 chunk-at-requires : tie.Need-chunk-at-requires Inv-loop μ-loop
-chunk-at-requires c κs = (start (c .before .before) .pre .1 .1, omega (arith, c .before .loop-test .taken))
+chunk-at-requires c κs = (start (c .before) .pre .1 .1, omega (arith, c .loop-test .taken))
 
 add-bins-requires : tie.Need-add-bins-requires Inv-loop μ-loop
 add-bins-requires c κs =
@@ -73,14 +73,14 @@ add-bins-requires c κs =
     let a = s .args in
     let x = a .stretch in
     let at = d .loop in
-    let is = c .before .chunk-at .ensures in
+    let is = c .before .before .chunk-at .ensures in
     let below = turn .loop-test .taken in
     rw is (
       (s .pre .0 .0, s .pre .0 .1, size d ∙ s .pre .0 .2),
       (
         s .pre .1 .0,
         (
-          (chunk-in x (s .pre .1 .1) (at .start) (at .inv .0) below, omega (arith, at .inv .3)),
+          (chunk-in x (s .pre .1 .1) (at .start) (at .inv .0) below .0, omega (arith, at .inv .3)),
           chunk-room x (s .pre .1 .1) (at .start) (at .inv .0) below (at .bins)
               (λ v h. omega (arith, at .inv .5 v h, count-le (stretchBit x (a .words .now)) (spanBefore x (at .start)) (a .bits .now) v)),
         ),
@@ -99,7 +99,7 @@ loop-less c = search needs
 loop-again : tie.Need-loop-again Inv-loop μ-loop
 loop-again c =
     let call = c .before .before .add-bins in
-    let cut = c .before .before .before .before .chunk-at in
+    let cut = c .before .before .before .before .before .chunk-at in
     let turn = c .before .before .before .before .before .before in
     let d = turn .before in
     let at = d .loop in
@@ -113,15 +113,15 @@ loop-again c =
     let inside = chunk-in x (s .pre .1 .1) (at .start) (at .inv .0) (turn .loop-test .taken) in (
       omega (arith, at .inv .0),
       omega (arith, turn .loop-test .taken),
-      call .kept .1 .1 .1 .1 .0 ∙ at .inv .2,
+      call .kept .1 .1 .1 .1 .1 .1 .0 ∙ at .inv .2,
       simp length-set (at .inv .3),
       rw none (λ e h. marked-again (at .acc) (x .first - 64 * at .start) e (omega (arith, at .inv .3)) (omega (arith, at .inv .0)) (at .inv .4 e h)),
       λ v h.
-          let here : v < length (at .bins) = omega (arith, call .kept .1 .1 .1 .1 .0) in
+          let here : v < length (at .bins) = omega (arith, call .kept .1 .1 .1 .1 .1 .1 .0) in
           call .ensures v here
           ∙ ap₂ (λ (y : ℕ) (q : Chunk). y + markedIn lane (onward (64 * q .start) (storedBit (q .stride) (a .words .now))) (a .bits .now) (q .lanes) v) (at .inv .5 v here) (cut .ensures)
           ∙ ap (λ (y : ℕ). countIn (stretchBit x (a .words .now)) (spanBefore x (at .start)) (a .bits .now) v + y)
-          (marked-from lane bit (64 * at .start) (k .skip) (k .lanes) (a .bits .now) v (inside .3) (λ e l. at .inv .4 e (omega (arith, inside .2))))
+          (marked-from lane bit (64 * at .start) (k .skip) (k .lanes) (a .bits .now) v (inside .1) (λ e l. at .inv .4 e (omega (arith, inside .0))))
           ∙ sym (chunk-more x (s .pre .1 .1) (at .start) (at .inv .0) (turn .loop-test .taken) (a .words .now) (a .bits .now) v),
     )
 
@@ -149,8 +149,8 @@ multi-eval-neg-spec =
     marked-from-requires
     loop-holds
     mul-loop
-    slice-aggregate-add-bins
     chunk-at-requires
+    slice-aggregate-add-bins
     add-bins-requires
     array-write-acc
     add-start
