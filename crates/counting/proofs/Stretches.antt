@@ -5,7 +5,7 @@ use mathlib.Core.List.{List}
 use Prim.Native.Nat.{ℕ, _+_, _-_, _*_, _/_, _%_, _^_, _≤_, _<_, min}
 use native.Mathlib.Omega.{arith}
 use native.Mathlib.Decide.{decLt}
-use lib.ListN.{length, getD, set}
+use lib.ListN.{length, getD, set, replicate, getD-replicate}
 use lib.Pow.{shl-exact, shr-lt, ones-lt}
 use lib.Seq.{getD-set-same, getD-set-other}
 use borrow.Author.Tests.{le-leb, lt-leb}
@@ -46,9 +46,15 @@ other-lane : (acc : List ℕ) (w e : ℕ) → 64 ≤ e → laneOf (wordAt (set a
 unfolding laneOf
 other-lane acc w e h = ap (λ (y : ℕ). bitAt y (e % 64)) (getD-set-other acc 0 (e / 64) w 0 (omega arith))
 
+-- the lanes of a list of ones
+pub marked-ones : (n e : ℕ) → e / 64 < n → laneOf (wordAt (replicate n (2 ^ 64 - 1))) e ≡ from 0 e
+unfolding laneOf
+marked-ones n e h =
+    ap (λ (w : ℕ). bitAt w (e % 64)) (getD-replicate n (e / 64) (2 ^ 64 - 1) 0 h) ∙ bit-ones 64 (e % 64) (omega arith) ∙ sym (from-above 0 e (omega arith))
+
 -- all marked but for the first `skip`, where the first word has them cleared
 pub marked-cut : (acc : List ℕ) (skip w e : ℕ) → 0 < length acc → skip < 64 → w ≡ (2 ^ 64 - 1) / 2 ^ skip * 2 ^ skip % 2 ^ 64
-    → laneOf (wordAt acc) e ≡ 1 → laneOf (wordAt (set acc 0 w)) e ≡ from skip e
+    → laneOf (wordAt acc) e ≡ from 0 e → laneOf (wordAt (set acc 0 w)) e ≡ from skip e
 marked-cut acc skip w e room small is one = by-word (decLt e 64)
   where
     ones : ℕ
@@ -65,7 +71,7 @@ marked-cut acc skip w e room small is one = by-word (decLt e 64)
 
     by-word : Dec (e < 64) → laneOf (wordAt (set acc 0 w)) e ≡ from skip e
     by-word (yes h) = first-lane acc w e room h ∙ ap (λ (y : ℕ). bitAt y e) cut ∙ by-skip h (decLt e skip)
-    by-word (no h) = other-lane acc w e (omega arith) ∙ one ∙ sym (from-above skip e (omega arith))
+    by-word (no h) = other-lane acc w e (omega arith) ∙ one ∙ from-above 0 e (omega arith) ∙ sym (from-above skip e (omega arith))
 
 -- and all marked again
 pub marked-again : (acc : List ℕ) (skip e : ℕ) → 0 < length acc → skip < 64 → laneOf (wordAt acc) e ≡ from skip e

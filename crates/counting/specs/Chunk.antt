@@ -1,6 +1,9 @@
 -- The chunks in which a stretch is counted.
 use Prim.Native.Nat.{ℕ, _+_, _-_, _*_, _≤_, _<_, min}
 use mathlib.Core.List.{List}
+use mathlib.Core.Bool.{Bool}
+use lib.Dec.{leb}
+use lib.ListN.{length}
 use Rattle.counting.specs.Sample.{onward}
 use Rattle.counting.specs.Words.{storedBit}
 use Rattle.counting.specs.declared.stretch.Stretch.{Stretch}
@@ -26,3 +29,11 @@ LanesIn S start n = (64 * start + n ≤ 64 * S) × (64 * start + n ≤ 16777216)
 -- so do those of a chunk, and none is skipped but in the first word
 abbrev pub ChunkIn : Chunk → Type 0
 ChunkIn c = LanesIn (c .stride) (c .start) (c .lanes) × (c .skip ≤ c .lanes) × (c .skip < 64)
+
+-- 64 words have all its lanes
+abbrev pub isShort : Chunk → Bool
+isShort c = leb (c .lanes) 4096
+
+-- acc has a lane for each of its lanes, and one word at the least
+abbrev pub MarkRoom : Chunk → List ℕ → Type 0
+MarkRoom c acc = (c .lanes ≤ 64 * length acc) × (0 < length acc)

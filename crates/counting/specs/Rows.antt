@@ -21,6 +21,10 @@ markedIn lane bit bits n v = sumTo (λ e. min (lane e) (same (binOf (bit e) bits
 abbrev pub from : ℕ → ℕ → ℕ
 from skip e = cond (leb skip e) 1 0
 
+-- of the lanes of acc those from `skip` on are marked
+abbrev pub MarkedFrom : ℕ → List ℕ → Type 0
+MarkedFrom skip acc = (e : ℕ) → e < 64 * length acc → laneOf (wordAt acc) e ≡ from skip e
+
 -- the lanes of acc say which of the first n blocks are marked by `lane` and have all the bits set
 abbrev pub Marks : (ℕ → ℕ) → List ℕ → (ℕ → ℕ → ℕ) → List ℕ → ℕ → Type 0
 Marks lane acc bit bits n = (e : ℕ) → e < n → laneOf (wordAt acc) e ≡ min (lane e) (same (binOf (bit e) bits) (2 ^ length bits - 1))

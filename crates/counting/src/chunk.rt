@@ -1,7 +1,7 @@
 // The chunks in which the rows of a stretch are counted.
 ghost use mathlib.Core.Path.{_≡_};
 ghost use Prim.Native.Nat.{_-_, _*_, _≤_, min};
-ghost use Rattle.counting.specs.Chunk.{chunkAt};
+ghost use Rattle.counting.specs.Chunk.{chunkAt, isShort};
 ghost use Rattle.counting.specs.Stretch.{Within};
 use crate::stretch::Stretch;
 
@@ -25,6 +25,13 @@ pub fn chunk_at(stretch: Stretch, start: usize) -> Chunk
         skip: less(stretch.first, base),
         lanes: at_most(stretch.end - base, 32768),
     }
+}
+
+// Whether 64 words have all its lanes.
+pub fn is_short(chunk: Chunk) -> bool
+    ensures { λ r. ⌜ r ≡ isShort chunk ⌝ }
+{
+    chunk.lanes <= 4096
 }
 
 // a less b; 0 where b is more.

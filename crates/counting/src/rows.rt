@@ -1,17 +1,18 @@
 // Counts over the rows, 32,768 blocks at a time: each bit's row has 64 blocks to a word, and the rows are ANDed into 512 words of marks.
 ghost use mathlib.Core.Path.{_≡_};
 ghost use mathlib.Core.List.{[], _∷_, _++_};
-ghost use Prim.Native.Nat.{ℕ, _+_, _*_, _^_, _≤_, _<_};
+ghost use Prim.Native.Nat.{ℕ, _+_, _*_, _/_, _^_, _≤_, _<_};
 ghost use lib.Bits.{bitAnd};
 ghost use lib.ListN.{length, getD, replicate};
 ghost use Rattle.counting.specs.Sample.{onward, allSet, countsOf};
-ghost use Rattle.counting.specs.Chunk.{LanesIn, ChunkIn, chunkBit, chunkBlocks};
+ghost use Rattle.counting.specs.Chunk.{LanesIn, ChunkIn, MarkRoom, chunkAt, chunkBit, chunkBlocks};
 ghost use Rattle.counting.specs.Stretch.{Within, span, stretchBit};
 ghost use Rattle.counting.specs.Tally.{laneOf, wordAt, wordWith};
 ghost use Rattle.counting.specs.Words.{storedBit};
-ghost use Rattle.counting.specs.Rows.{RowsIn, from, Marks, CountRoom, markedIn, Paired, Parted};
+ghost use Rattle.counting.specs.Rows.{RowsIn, MarkedFrom, Marks, CountRoom, markedIn, Paired, Parted};
 use crate::chunk::Chunk;
 use crate::chunk::chunk_at;
+use crate::chunk::is_short;
 use crate::stretch::Stretch;
 use crate::tally::count_both;
 use crate::tally::count_with;
@@ -40,14 +41,31 @@ pub fn multi_eval_neg(bits: &[u32], words: &[u64], stretch: Stretch, bins: &mut 
     requires { ⌜ Within stretch ⌝ }
     ensures { λ _. ⌜ now (bins .exit) ≡ countsOf (stretchBit stretch (now (words .entry))) (span stretch) (now (bits .entry)) ⌝ }
 {
+    if is_short(chunk_at(stretch, stretch.first / 64)) {
+        let mut acc = few_marked();
+        count_bins(&mut acc, bits, words, stretch, bins);
+    } else {
+        let mut acc = all_marked();
+        count_bins(&mut acc, bits, words, stretch, bins);
+    }
+}
+
+// The same with all blocks marked. What is left of the marks is free.
+fn count_bins(acc: &mut [u64], bits: &[u32], words: &[u64], stretch: Stretch, bins: &mut [u32])
+    requires { ⌜ MarkRoom (chunkAt stretch (stretch .first / 64)) (now acc) × MarkedFrom 0 (now acc) ⌝ }
+    requires { ⌜ (1 ≤ length (now bits)) × (length (now bits) ≤ 20) × (length (now bins) ≡ 2 ^ length (now bits)) ⌝ }
+    requires { ⌜ RowsIn (now words) (stretch .stride) (now bits) ⌝ }
+    requires { ⌜ Within stretch ⌝ }
+    ensures { λ _. ⌜ now (bins .exit) ≡ countsOf (stretchBit stretch (now (words .entry))) (span stretch) (now (bits .entry)) ⌝ }
+{
     clear(bins);
     let end = stretch.end;
     let mut start = stretch.first / 64;
-    let mut acc = marked_from(stretch.first % 64);
+    unmark(acc, stretch.first % 64);
     while 64 * start < end {
         let chunk = chunk_at(stretch, start);
         add_bins(
-            &acc,
+            acc,
             words,
             chunk.stride,
             chunk.start,
@@ -74,23 +92,29 @@ fn clear(counts: &mut [u32])
 // Marks for a chunk, every block marked.
 fn all_marked() -> [u64; 512]
     ensures { λ r. ⌜ 512 ≡ length r ⌝ }
-    ensures { λ r. ⌜ ((e : ℕ) → e < 32768 → laneOf (wordAt r) e ≡ 1) ⌝ }
+    ensures { λ r. ⌜ MarkedFrom 0 r ⌝ }
 {
     [u64::MAX; 512]
 }
 
-// The same without the first `skip`.
-fn marked_from(skip: usize) -> [u64; 512]
-    requires { ⌜ skip < 64 ⌝ }
-    ensures { λ r. ⌜ 512 ≡ length r ⌝ }
-    ensures { λ r. ⌜ ((e : ℕ) → e < 32768 → laneOf (wordAt r) e ≡ from skip e) ⌝ }
+// The same for a short one.
+fn few_marked() -> [u64; 64]
+    ensures { λ r. ⌜ 64 ≡ length r ⌝ }
+    ensures { λ r. ⌜ MarkedFrom 0 r ⌝ }
 {
-    let mut acc = all_marked();
-    acc[0] = (u64::MAX >> skip) << skip;
-    acc
+    [u64::MAX; 64]
 }
 
-// Goes on with the blocks of a chunk. The rows of the bits are ANDed once for all counts.
+// Takes the marks of the first `skip` blocks away.
+fn unmark(acc: &mut [u64], skip: usize)
+    requires { ⌜ (skip < 64) × (0 < length (now acc)) ⌝ }
+    requires { ⌜ MarkedFrom 0 (now acc) ⌝ }
+    ensures { λ _. ⌜ MarkedFrom skip (now (acc .exit)) ⌝ }
+{
+    acc[0] = (u64::MAX >> skip) << skip;
+}
+
+// Goes on with the blocks of a chunk. Where it is short, room for all marks would cost more than its counts.
 fn extend(bits: &[u32], next: usize, words: &[u64], chunk: Chunk, counts: &mut [u32])
     requires { ⌜ RowsIn (now words) (chunk .stride) (now bits) ⌝ }
     requires { ⌜ ChunkIn chunk ⌝ }
@@ -98,16 +122,41 @@ fn extend(bits: &[u32], next: usize, words: &[u64], chunk: Chunk, counts: &mut [
     requires { ⌜ CountRoom (chunk .lanes) (now counts) ⌝ }
     ensures { λ _. ⌜ ((j : ℕ) → j < length (now (counts .entry)) → getD (now (counts .exit)) j 0 ≡ getD (now (counts .entry)) j 0 + allSet (chunkBit chunk (now (words .entry))) (chunkBlocks chunk) (now (bits .entry) ++ ((next + j) ∷ []))) ⌝ }
 {
-    let mut acc = marked_from(chunk.skip);
-    and_rows(&mut acc, bits, words, chunk);
-    add_each(&acc, next, words, chunk, counts);
+    if is_short(chunk) {
+        let mut acc = few_marked();
+        extend_with(&mut acc, bits, next, words, chunk, counts);
+    } else {
+        let mut acc = all_marked();
+        extend_with(&mut acc, bits, next, words, chunk, counts);
+    }
+}
+
+// The same with all blocks marked. The rows of the bits are ANDed once for all counts. What is left of the marks is free.
+fn extend_with(
+    acc: &mut [u64],
+    bits: &[u32],
+    next: usize,
+    words: &[u64],
+    chunk: Chunk,
+    counts: &mut [u32],
+)
+    requires { ⌜ MarkRoom chunk (now acc) × MarkedFrom 0 (now acc) ⌝ }
+    requires { ⌜ RowsIn (now words) (chunk .stride) (now bits) ⌝ }
+    requires { ⌜ ChunkIn chunk ⌝ }
+    requires { ⌜ (next + length (now counts) < 4294967296) × ((next + length (now counts)) * chunk .stride ≤ length (now words)) ⌝ }
+    requires { ⌜ CountRoom (chunk .lanes) (now counts) ⌝ }
+    ensures { λ _. ⌜ ((j : ℕ) → j < length (now (counts .entry)) → getD (now (counts .exit)) j 0 ≡ getD (now (counts .entry)) j 0 + allSet (chunkBit chunk (now (words .entry))) (chunkBlocks chunk) (now (bits .entry) ++ ((next + j) ∷ []))) ⌝ }
+{
+    unmark(acc, chunk.skip);
+    and_rows(acc, bits, words, chunk);
+    add_each(acc, next, words, chunk, counts);
 }
 
 // Leaves of the marks those of the blocks that have all the bits set. Two rows a turn, so that the marks are written half as often; the last row
 // of an odd number twice, which changes nothing.
 fn and_rows(acc: &mut [u64], bits: &[u32], words: &[u64], chunk: Chunk)
     requires { ⌜ RowsIn (now words) (chunk .stride) (now bits) ⌝ }
-    requires { ⌜ ChunkIn chunk × (512 ≤ length (now acc)) ⌝ }
+    requires { ⌜ ChunkIn chunk × MarkRoom chunk (now acc) ⌝ }
     ensures { λ _. ⌜ Marks (laneOf (wordAt (now (acc .entry)))) (now (acc .exit)) (onward (64 * chunk .start) (storedBit (chunk .stride) (now (words .entry)))) (now (bits .entry)) (chunk .lanes) ⌝ }
 {
     let stride = chunk.stride;
@@ -148,7 +197,7 @@ fn and_two(acc: &mut [u64], row: &[u64], other: &[u64])
 
 // Adds to each count the marked blocks that have its bit set.
 fn add_each(acc: &[u64], next: usize, words: &[u64], chunk: Chunk, counts: &mut [u32])
-    requires { ⌜ ChunkIn chunk × (512 ≤ length (now acc)) ⌝ }
+    requires { ⌜ ChunkIn chunk × MarkRoom chunk (now acc) ⌝ }
     requires { ⌜ (next + length (now counts) < 4294967296) × ((next + length (now counts)) * chunk .stride ≤ length (now words)) ⌝ }
     requires { ⌜ CountRoom (chunk .lanes) (now counts) ⌝ }
     ensures { λ _. ⌜ ((j : ℕ) → j < length (now (counts .entry)) → getD (now (counts .exit)) j 0 ≡ getD (now (counts .entry)) j 0 + markedIn (laneOf (wordAt (now (acc .entry)))) (onward (64 * chunk .start) (storedBit (chunk .stride) (now (words .entry)))) ((next + j) ∷ []) (chunk .lanes) 1) ⌝ }
@@ -180,7 +229,7 @@ fn add_bins(
 )
     requires { ⌜ (1 ≤ length (now bits)) × (length (now bits) ≤ 20) × (length (now bins) ≡ 2 ^ length (now bits)) ⌝ }
     requires { ⌜ RowsIn (now words) stride (now bits) ⌝ }
-    requires { ⌜ LanesIn stride start n × (512 ≤ length (now acc)) ⌝ }
+    requires { ⌜ LanesIn stride start n × (n ≤ 64 * length (now acc)) ⌝ }
     requires { ⌜ CountRoom n (now bins) ⌝ }
     ensures { λ _. ⌜ ((v : ℕ) → v < length (now (bins .entry)) → getD (now (bins .exit)) v 0 ≡ getD (now (bins .entry)) v 0 + markedIn (laneOf (wordAt (now (acc .entry)))) (onward (64 * start) (storedBit stride (now (words .entry)))) (now (bits .entry)) n v) ⌝ }
 {
@@ -227,7 +276,7 @@ fn add_few(
 )
     requires { ⌜ (1 ≤ length (now bits)) × (length (now bits) ≤ 2) × (length (now bins) ≡ 2 ^ length (now bits)) ⌝ }
     requires { ⌜ RowsIn (now words) stride (now bits) ⌝ }
-    requires { ⌜ LanesIn stride start n × (512 ≤ length (now acc)) ⌝ }
+    requires { ⌜ LanesIn stride start n × (n ≤ 64 * length (now acc)) ⌝ }
     requires { ⌜ CountRoom n (now bins) ⌝ }
     ensures { λ _. ⌜ ((v : ℕ) → v < length (now (bins .entry)) → getD (now (bins .exit)) v 0 ≡ getD (now (bins .entry)) v 0 + markedIn (laneOf (wordAt (now (acc .entry)))) (onward (64 * start) (storedBit stride (now (words .entry)))) (now (bits .entry)) n v) ⌝ }
 {

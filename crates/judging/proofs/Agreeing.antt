@@ -1,6 +1,6 @@
 -- A finding evaluated on the recording that it was found in (`findings-agree`), and so after every acquisition (`all-agree`).
 use mathlib.Core.Path.{_≡_, refl, sym, ap, _∙_, subst}
-use mathlib.Core.Bool.{Bool, true, false, cond}
+use mathlib.Core.Bool.{true}
 use mathlib.Core.List.{List}
 use Prim.Native.Nat.{ℕ, _^_, _≤_, _<_}
 use native.Mathlib.Nat.{le-trans, min-le-right}
@@ -10,10 +10,8 @@ use borrow.Author.Tests.{le-leb, lt-ltb, eq-eqb}
 use Rattle.counting.specs.Block.{validSize}
 use Rattle.counting.specs.Recording.{recording, blocksIn, recordedBit}
 use Rattle.counting.specs.Sample.{total}
-use Rattle.counting.specs.Sampling.{startedOf}
 use Rattle.counting.specs.Stretch.{stretchBytes}
 use Rattle.counting.specs.declared.sampling.Sampler.{Sampler}
-use Rattle.counting.specs.declared.sampling.Started.{Started}
 use Rattle.counting.proofs.Accepted.{valid-facts, room-blocks}
 use Rattle.counting.proofs.Alone.{stretches-alone}
 use Rattle.counting.proofs.Recorded.{all-recorded}
@@ -28,9 +26,9 @@ use Rattle.subsets.specs.Bits.{validWidth}
 use Rattle.subsets.proofs.Testing.{not-refused}
 use Rattle.searching.proofs.Filled.{length-counts}
 use Rattle.searching.proofs.Refusing.{SearchFree, direct-free, layered-free, said-is}
-use Rattle.searching.proofs.Claiming.{claims}
+use Rattle.searching.proofs.Claiming.{claims, acquired-valid}
 use Rattle.searching.proofs.Stretches.{whole-recordings, best-alone}
-use Rattle.searching.specs.Claim.{Acquisition, fresh, next, BestIn, BestOf}
+use Rattle.searching.specs.Claim.{Acquisition, BestIn, BestOf}
 use Rattle.searching.specs.Search.{StretchSearch}
 use Rattle.searching.specs.declared.finding.Searched.{Searched}
 use Rattle.searching.specs.declared.finding.Finding.{Finding}
@@ -112,15 +110,6 @@ findings-agree B held k f bins order scratch W K L M S best =
     }
 
 -- ---- after an acquisition
-
-started-valid : (t : Bool) (a b : Started) → b .refusal ≡ 1 → cond t a b .refusal ≡ 0 → t ≡ true
-started-valid true a b one e = refl
-started-valid false a b one e = absurd (omega (arith, one, e))
-
-acquired-valid : {B : ℕ} {ws : List ℕ} {pieces : List (List ℕ)} {answers : List ℕ} {s : Sampler} {ws′ : List ℕ} → Acquisition B ws pieces answers s ws′ → validSize B ≡ true
-unfolding startedOf
-acquired-valid {B} (fresh r ws′ is left none) = started-valid (validSize B) _ _ refl (sym (ap (λ (a : Started). a .refusal) is) ∙ none)
-acquired-valid (next acquired piece r ws″ is left) = acquired-valid acquired
 
 module _ (B : ℕ) (ws : List ℕ) (pieces : List (List ℕ)) (answers : List ℕ) (s : Sampler) (ws′ : List ℕ) (acquired : Acquisition B ws pieces answers s ws′) where
   abbrev held : List ℕ

@@ -77,6 +77,10 @@ stands {B} {ws} (next {pieces} {answers} {s} {ws′} before p r ws″ e g) =
           ∙ sym (answers-snoc (started B ws) pieces p);
     }
 
+-- the block size of an acquisition is valid
+pub acquired-valid : {B : ℕ} {ws : List ℕ} {pieces : List (List ℕ)} {answers : List ℕ} {s : Sampler} {ws′ : List ℕ} → Acquisition B ws pieces answers s ws′ → validSize B ≡ true
+acquired-valid acquired = stands acquired .valid
+
 -- ---- what is best in one sample is best in another that agrees with it
 
 module _ (B n k : ℕ) (bit bit′ : ℕ → ℕ → ℕ) (agree : AgreeBelow n B bit bit′) where

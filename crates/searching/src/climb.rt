@@ -29,19 +29,34 @@ pub fn find_layered(
     ensures { λ r. ⌜ Won (stretchBit stretch (now (words .entry))) (span stretch) (stretch .«block_size») k (now (bins .entry)) (now (order .entry)) r (now (bins .exit)) (now (order .exit)) ⌝ }
     ensures { λ _. ⌜ (drop (storeSize (stretch .«block_size») k) (now (lower .exit)) ≡ drop (storeSize (stretch .«block_size») k) (now (lower .entry))) × (drop (storeSize (stretch .«block_size») k) (now (upper .exit)) ≡ drop (storeSize (stretch .«block_size») k) (now (upper .entry))) ⌝ }
 {
-    let mut counts = no_counts();
     let mut ranks = no_ranks();
-    find_in_run(
-        &mut counts[..],
-        &mut ranks[..],
-        words,
-        stretch,
-        k,
-        lower,
-        upper,
-        bins,
-        order,
-    )
+    if stretch.block_size > 256 {
+        let mut counts = no_counts();
+        find_in_run(
+            &mut counts[..],
+            &mut ranks[..],
+            words,
+            stretch,
+            k,
+            lower,
+            upper,
+            bins,
+            order,
+        )
+    } else {
+        let mut counts = few_counts();
+        find_in_run(
+            &mut counts[..],
+            &mut ranks[..],
+            words,
+            stretch,
+            k,
+            lower,
+            upper,
+            bins,
+            order,
+        )
+    }
 }
 
 // Room for the counts of a run: a block has at most 4,096 bits.
@@ -49,6 +64,13 @@ fn no_counts() -> [u32; 4096]
     ensures { λ r. ⌜ 4096 ≡ length r ⌝ }
 {
     [0; 4096]
+}
+
+// The same where it has at most 256: more would cost a search of few blocks as much as its counts.
+fn few_counts() -> [u32; 256]
+    ensures { λ r. ⌜ 256 ≡ length r ⌝ }
+{
+    [0; 256]
 }
 
 // Room for its ranks.

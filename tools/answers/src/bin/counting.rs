@@ -163,7 +163,8 @@ fn stretch_cases(draws: &mut Draws) -> Vec<Case> {
     cases
 }
 
-/// A recording longer than the marks of one chunk, which begins with the word of a stretch's first block. Each byte is one digit, to keep the file small.
+/// A recording longer than the marks of one chunk, which begins with the word of a stretch's first block; up to 4,096 blocks from there on there is room for
+/// fewer marks. Each byte is one digit, to keep the file small.
 fn chunk_case(draws: &mut Draws) -> Case {
     let recording: Vec<u8> = (0..33_000).map(|_| draws.below(10) as u8).collect();
     let pieces = cut(draws, &recording, 3);
@@ -171,7 +172,8 @@ fn chunk_case(draws: &mut Draws) -> Case {
         (0, 33_000), (0, 32_767), (0, 32_768), (0, 32_769), (1, 32_768), (1, 32_769), (63, 32_769), (63, 32_831), (64, 32_831), (64, 32_832), (64, 32_833),
         (65, 32_832), (65, 32_833), (127, 32_833), (128, 32_896), (128, 32_897), (129, 33_000), (32_704, 33_000), (32_767, 32_767), (32_767, 32_768),
         (32_767, 32_769), (32_767, 33_000), (32_768, 32_768), (32_768, 32_769), (32_768, 33_000), (32_769, 32_769), (32_769, 33_000), (33_000, 33_000),
-        (32_769, 32_768),
+        (32_769, 32_768), (0, 4_095), (0, 4_096), (0, 4_097), (1, 4_096), (1, 4_097), (63, 4_096), (63, 4_097), (64, 4_160), (64, 4_161), (65, 4_160),
+        (65, 4_161), (28_672, 32_768), (28_672, 32_769), (28_735, 32_768), (28_735, 32_769),
     ];
     Case { block_size: 8, words: 8 * 516 + 3, pieces, subsets: in_stretches(&stretches, &[&[4], &[5, 7], &[4, 5, 6, 7]]) }
 }

@@ -67,12 +67,13 @@ impl Recording {
         Recording { block_size, words, pieces, stretch: 0..blocks, k: 1 + draws.below(3), bins: 0, order: 0, stores: [0, 1], stale: false }
     }
 
-    /// One of few values or of a short period, so that scores tie, about a word's end long, or, one of thirty, a chunk's.
+    /// One of few values or of a short period, so that scores tie, about a word's end long, or, one of thirty each, a chunk's or a short chunk's.
     pub fn tied(draws: &mut Draws) -> Recording {
         let (block_size, widest) = [(8, 5), (8, 3), (16, 3), (24, 2), (64, 2), (128, 1)][draws.below(6)];
         let size = block_size / 8;
         let blocks = match draws.below(15) {
             0 if size <= 2 => [32_767, 32_768, 32_833, 33_000, 65_536, 65_602][draws.below(6)] + draws.below(3),
+            1 if size <= 2 => [4_094, 4_158][draws.below(2)] + draws.below(5),
             _ => [0, 2, 62, 64, 126, 128, 190][draws.below(7)] + draws.below(5),
         };
         let (rest, kind) = (draws.below(size), draws.below(8));
@@ -148,8 +149,9 @@ fn direct_work(block_size: usize, k: usize) -> usize {
     choose(block_size, k).saturating_mul(k + 4).saturating_mul(1 << k)
 }
 
-/// Places where counting begins or ends another word, or another chunk of 32,768 marks.
-const EDGES: [usize; 15] = [0, 1, 63, 64, 65, 127, 128, 129, 4096, 32_767, 32_768, 32_769, 65_535, 65_536, 65_537];
+/// Places where counting begins or ends another word, or another chunk of 32,768 marks, or goes beyond the 4,096 marks of a short one.
+const EDGES: [usize; 18] =
+    [0, 1, 63, 64, 65, 127, 128, 129, 4_095, 4_096, 4_097, 4_160, 32_767, 32_768, 32_769, 65_535, 65_536, 65_537];
 
 /// A stretch of n blocks. Some hold no block, and some are refused: they end before they begin, or past n.
 fn part(draws: &mut Draws, n: usize) -> Range<usize> {

@@ -1,160 +1,74 @@
--- `rows::multi_eval_neg` meets its contract: the blocks of the chunks passed are counted.
-use Prim.Native.Nat.{ℕ, _+_, _-_, _*_, _/_, _%_, _≤_, _<_}
-use mathlib.Core.Path.{_≡_, refl, sym, ap, ap₂, _∙_}
-use mathlib.Core.List.{List}
-use lib.ListN.{length, getD, getD-replicate, length-set}
-use Rattle.counting.specs.Sample.{onward, countIn}
-use Rattle.counting.specs.Chunk.{chunkAt}
-use Rattle.counting.specs.Stretch.{stretchBit}
-use Rattle.counting.specs.Tally.{laneOf, wordAt}
-use Rattle.counting.specs.Words.{storedBit}
-use Rattle.counting.specs.Rows.{from, markedIn}
-use Rattle.counting.specs.declared.chunk.Chunk.{Chunk}
-use Rattle.counting.proofs.Counts.{count-le, counts-are}
-use Rattle.counting.proofs.Stretches.{spanBefore, marked-again, marked-from, chunk-in, chunk-more, chunk-room, span-none, span-all}
-use native.Mathlib.Omega.{arith}
+-- `rows::multi_eval_neg` meets its contract: either marks have a lane for each of the first chunk.
+use Prim.Native.Nat.{_/_}
+use mathlib.Core.Path.{sym, ap, _∙_}
 use borrow.Author.Needs.{needs}
+use borrow.Author.Tests.{leb-true}
+use native.Mathlib.Omega.{arith}
+use Rattle.counting.specs.Chunk.{chunkAt, isShort}
 use Rattle.counting.proofs.rows.multi_eval_neg.Statement.{statement}
 use Rattle.counting.proofs.rows.multi_eval_neg.Tie as tie
 
-abbrev Inv-loop : tie.InvT-loop
-Inv-loop bits words stretch bins₀ end start₀ acc₀ bins start acc =
-    (stretch .first < 64 * start + 64) × (64 * start ≤ stretch .end + 32768) × (length bins ≡ length bins₀) × (512 ≡ length acc)
-    × ((e : ℕ) → e < 32768 → laneOf (wordAt acc) e ≡ from (stretch .first - 64 * start) e)
-    × ((v : ℕ) → v < length bins → getD bins v 0 ≡ countIn (stretchBit stretch words) (spanBefore stretch start) bits v)
+chunk-at-requires : tie.Need-chunk-at-requires
+chunk-at-requires c κs =
+    let s = c .before .before .before .before in
+    (s .pre .1 .1, omega (arith, s .pre .1 .1))
 
-abbrev μ-loop : tie.MeasureT-loop
-μ-loop bits words stretch bins₀ end start₀ acc₀ bins start acc = end - 64 * start
+is-short-requires : tie.Need-is-short-requires
+is-short-requires c κs = search needs
 
-abbrev start : tie.At-loop Inv-loop μ-loop → tie.Start Inv-loop μ-loop
-start d = d .before .before .before .before .before .before .before .before .before .before .before
+few-marked-requires : tie.Need-few-marked-requires
+few-marked-requires c κs = search needs
 
--- there are as many bins as at the start
-size : (d : tie.At-loop Inv-loop μ-loop) → length (d .loop .bins) ≡ length (start d .args .bins .now)
-size d = d .loop .inv .2 ∙ d .before .before .before .before .before .before .clear .kept .0
+slice-aggregate-count-bins : tie.Need-slice-aggregate-count-bins
+slice-aggregate-count-bins c = search needs
 
-clear-requires : tie.Need-clear-requires Inv-loop μ-loop
-clear-requires c κs = search needs
+count-bins-requires : tie.Need-count-bins-requires
+count-bins-requires c κs =
+    let marks = c .before .before .few-marked in
+    let test = c .before .before .before in
+    let cut = test .before .before in
+    let s = cut .before .before .before .before .before in
+    let x = s .args .stretch in
+    let short = leb-true (chunkAt x (x .first / 64) .lanes) 4096 (sym (test .before .is-short .ensures ∙ ap isShort (cut .chunk-at .ensures)) ∙ test .if1 .taken) in
+    (((omega (arith, marks .ensures .0, short), omega (arith, marks .ensures .0)), marks .ensures .1), s .pre)
 
-marked-from-requires : tie.Need-marked-from-requires Inv-loop μ-loop
-marked-from-requires c κs = search needs
+all-marked-requires : tie.Need-all-marked-requires
+all-marked-requires c κs = search needs
 
-loop-holds : tie.Need-loop-holds Inv-loop μ-loop
-unfolding countIn
-loop-holds c =
+slice-aggregate-count-bins-2 : tie.Need-slice-aggregate-count-bins-2
+slice-aggregate-count-bins-2 c = search needs
+
+count-bins-requires-2 : tie.Need-count-bins-requires-2
+count-bins-requires-2 c κs =
+    let marks = c .before .before .all-marked in
     let s = c .before .before .before .before .before .before .before .before .before .before in
-    let a = s .args in
-    let x = a .stretch in
-    let cleared = c .before .before .before .before .before .clear in
-    let none = span-none x in
-    let skip : x .first - 64 * (x .first / 64) ≡ x .first % 64 = omega arith in (
-      omega arith,
-      omega (arith, s .pre),
-      refl,
-      c .marked-from .ensures .0,
-      rw skip (c .marked-from .ensures .1),
-      rw none (λ v h. ap (λ (l : List ℕ). getD l v 0) (cleared .ensures) ∙ getD-replicate (length (a .bins .now)) v 0 0 (omega (arith, cleared .kept .0))),
-    )
+    (((omega (arith, marks .ensures .0), omega (arith, marks .ensures .0)), marks .ensures .1), s .pre)
 
-mul-loop : tie.Need-mul-loop Inv-loop μ-loop
-mul-loop c = omega (arith, c .loop .inv .0, c .loop .inv .1, start c .pre)
+same-length : tie.Need-same-length
+same-length c = search needs
 
-slice-aggregate-add-bins : tie.Need-slice-aggregate-add-bins Inv-loop μ-loop
-slice-aggregate-add-bins c = search needs
+returns : tie.Need-returns
+returns c = c .before .before .before .count-bins .ensures
 
-chunk-at-requires : tie.Need-chunk-at-requires Inv-loop μ-loop
-chunk-at-requires c κs = (start (c .before) .pre .1 .1, omega (arith, c .loop-test .taken))
+same-length-2 : tie.Need-same-length-2
+same-length-2 c = search needs
 
-add-bins-requires : tie.Need-add-bins-requires Inv-loop μ-loop
-add-bins-requires c κs =
-    let turn = c .before .before .before in
-    let d = turn .before in
-    let s = start d in
-    let a = s .args in
-    let x = a .stretch in
-    let at = d .loop in
-    let is = c .before .before .chunk-at .ensures in
-    let below = turn .loop-test .taken in
-    rw is (
-      (s .pre .0 .0, s .pre .0 .1, size d ∙ s .pre .0 .2),
-      (
-        s .pre .1 .0,
-        (
-          (chunk-in x (s .pre .1 .1) (at .start) (at .inv .0) below .0, omega (arith, at .inv .3)),
-          chunk-room x (s .pre .1 .1) (at .start) (at .inv .0) below (at .bins)
-              (λ v h. omega (arith, at .inv .5 v h, count-le (stretchBit x (a .words .now)) (spanBefore x (at .start)) (a .bits .now) v)),
-        ),
-      ),
-    )
-
-array-write-acc : tie.Need-array-write-acc Inv-loop μ-loop
-array-write-acc c = search needs
-
-add-start : tie.Need-add-start Inv-loop μ-loop
-add-start c = search needs
-
-loop-less : tie.Need-loop-less Inv-loop μ-loop
-loop-less c = search needs
-
-loop-again : tie.Need-loop-again Inv-loop μ-loop
-loop-again c =
-    let call = c .before .before .add-bins in
-    let cut = c .before .before .before .before .before .chunk-at in
-    let turn = c .before .before .before .before .before .before in
-    let d = turn .before in
-    let at = d .loop in
-    let s = start d in
-    let a = s .args in
-    let x = a .stretch in
-    let k = chunkAt x (at .start) in
-    let lane = laneOf (wordAt (at .acc)) in
-    let bit = storedBit (x .stride) (a .words .now) in
-    let none : x .first - 64 * (at .start + 512) ≡ 0 = omega (arith, at .inv .0) in
-    let inside = chunk-in x (s .pre .1 .1) (at .start) (at .inv .0) (turn .loop-test .taken) in (
-      omega (arith, at .inv .0),
-      omega (arith, turn .loop-test .taken),
-      call .kept .1 .1 .1 .1 .1 .1 .0 ∙ at .inv .2,
-      simp length-set (at .inv .3),
-      rw none (λ e h. marked-again (at .acc) (x .first - 64 * at .start) e (omega (arith, at .inv .3)) (omega (arith, at .inv .0)) (at .inv .4 e h)),
-      λ v h.
-          let here : v < length (at .bins) = omega (arith, call .kept .1 .1 .1 .1 .1 .1 .0) in
-          call .ensures v here
-          ∙ ap₂ (λ (y : ℕ) (q : Chunk). y + markedIn lane (onward (64 * q .start) (storedBit (q .stride) (a .words .now))) (a .bits .now) (q .lanes) v) (at .inv .5 v here) (cut .ensures)
-          ∙ ap (λ (y : ℕ). countIn (stretchBit x (a .words .now)) (spanBefore x (at .start)) (a .bits .now) v + y)
-          (marked-from lane bit (64 * at .start) (k .skip) (k .lanes) (a .bits .now) v (inside .1) (λ e l. at .inv .4 e (omega (arith, inside .0))))
-          ∙ sym (chunk-more x (s .pre .1 .1) (at .start) (at .inv .0) (turn .loop-test .taken) (a .words .now) (a .bits .now) v),
-    )
-
-same-length : tie.Need-same-length Inv-loop μ-loop
-same-length c = size (c .before)
-
-returns : tie.Need-returns Inv-loop μ-loop
-returns c =
-    let d = c .before in
-    let at = d .loop in
-    let s = start d in
-    let a = s .args in
-    let x = a .stretch in
-    let all = span-all x (at .start) (omega (arith, c .loop-test .left)) in
-    counts-are (stretchBit x (a .words .now)) (x .end - x .first) (a .bits .now) (at .bins) (size d ∙ s .pre .0 .2)
-    (λ v h. at .inv .5 v h ∙ ap (λ (m : ℕ). countIn (stretchBit x (a .words .now)) m (a .bits .now) v) all)
+returns-2 : tie.Need-returns-2
+returns-2 c = c .before .before .before .count-bins2 .ensures
 
 pub multi-eval-neg-spec : {M : Type 1} → statement M
 multi-eval-neg-spec =
     tie.close
     (tie.spec
-    Inv-loop
-    μ-loop
-    clear-requires
-    marked-from-requires
-    loop-holds
-    mul-loop
     chunk-at-requires
-    slice-aggregate-add-bins
-    add-bins-requires
-    array-write-acc
-    add-start
-    loop-less
-    loop-again
+    is-short-requires
+    few-marked-requires
+    slice-aggregate-count-bins
+    count-bins-requires
+    all-marked-requires
+    slice-aggregate-count-bins-2
+    count-bins-requires-2
     same-length
-    returns)
+    returns
+    same-length-2
+    returns-2)

@@ -1,4 +1,4 @@
-//! Searches of stretches: from and to the ends of words and of chunks, of no block, and refused ones.
+//! Searches of stretches: from and to the ends of words and of chunks, of no block, and refused ones; and of long blocks.
 
 use super::*;
 
@@ -7,6 +7,7 @@ pub fn cases(draws: &mut Draws) -> Vec<Case> {
     cases.push(refused(draws));
     cases.push(other_samplers(draws));
     cases.push(at_ends_of_chunks(draws));
+    cases.extend(long_blocks(draws));
     cases
 }
 
@@ -83,8 +84,8 @@ fn other_samplers(draws: &mut Draws) -> Case {
     Case { block_size, words, pieces: vec![recording(draws, 5, 64)], searches }
 }
 
-/// A recording longer than the marks of one chunk, which begins with the word of a stretch's first block. Each byte is one digit, to keep the file small;
-/// at width 5 the four bits that are never set are chosen with one that is.
+/// A recording longer than the marks of one chunk, which begins with the word of a stretch's first block; up to 4,096 blocks from there on there is room for
+/// fewer marks. Each byte is one digit, to keep the file small; at width 5 the four bits that are never set are chosen with one that is.
 fn at_ends_of_chunks(draws: &mut Draws) -> Case {
     let recording: Vec<u8> = (0..33_000).map(|t| if t % 32_768 < 2 { 9 } else { draws.below(8) as u8 }).collect();
     let pieces = cut(draws, &recording, 3);
@@ -92,9 +93,27 @@ fn at_ends_of_chunks(draws: &mut Draws) -> Case {
         (0, 32_767), (0, 32_768), (0, 32_769), (1, 32_768), (1, 32_769), (63, 32_769), (63, 32_831), (64, 32_831), (64, 32_832), (64, 32_833), (65, 32_832),
         (65, 32_833), (127, 32_833), (128, 32_896), (128, 32_897), (129, 33_000), (32_704, 33_000), (32_767, 32_767), (32_767, 32_768), (32_767, 32_769),
         (32_767, 33_000), (32_768, 32_768), (32_768, 32_769), (32_768, 33_000), (32_769, 32_769), (32_769, 33_000), (33_000, 33_000), (32_769, 32_768),
-        (32_768, 33_001),
+        (32_768, 33_001), (0, 4_095), (0, 4_096), (0, 4_097), (1, 4_096), (1, 4_097), (63, 4_096), (63, 4_097), (64, 4_160), (64, 4_161), (65, 4_160),
+        (65, 4_161), (28_672, 32_768), (28_672, 32_769), (28_735, 32_768), (28_735, 32_769),
     ];
     let mut searches = vec![search(8, 5, 1)];
     searches.extend(places.map(|(first, end)| in_stretch(first, end, search(8, 5, 1))));
     Case { block_size: 8, words: 8 * 516 + 3, pieces, searches }
+}
+
+/// Blocks of as many bits as the small room for counts has, of more, and of all; the last bit is the biased one.
+fn long_blocks(draws: &mut Draws) -> Vec<Case> {
+    let mut cases = Vec::new();
+    for (block_size, widest) in [(256, 2), (264, 2), (4096, 1)] {
+        let mut recording = draws.bytes(5 * block_size / 8);
+        for block in recording.chunks_mut(block_size / 8) {
+            *block.last_mut().unwrap() |= 1;
+        }
+        let mut searches = Vec::new();
+        for k in 1..=widest {
+            searches.extend([search(block_size, k, 1), in_stretch(1, 5, search(block_size, k, 1))]);
+        }
+        cases.push(Case { block_size, words: block_size, pieces: vec![recording], searches });
+    }
+    cases
 }
