@@ -32,6 +32,8 @@ fn kind(recording: &Recording) -> &'static str {
         "stretches of no block"
     } else if n > 32_000 {
         "stretches of long recordings"
+    } else if n > 4_000 {
+        "stretches of recordings about 4,096 blocks long"
     } else {
         "stretches of short recordings"
     }

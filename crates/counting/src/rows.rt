@@ -1,4 +1,5 @@
-// Counts over the rows, 32,768 blocks at a time: each bit's row has 64 blocks to a word, and the rows are ANDed into 512 words of marks.
+// Counts over the rows, 32,768 blocks at a time: each bit's row has 64 blocks to a word, and the rows are ANDed into 512 words of marks,
+// or 64 where the blocks are few.
 ghost use mathlib.Core.Path.{_≡_};
 ghost use mathlib.Core.List.{[], _∷_, _++_};
 ghost use Prim.Native.Nat.{ℕ, _+_, _*_, _/_, _^_, _≤_, _<_};
@@ -114,7 +115,7 @@ fn unmark(acc: &mut [u64], skip: usize)
     acc[0] = (u64::MAX >> skip) << skip;
 }
 
-// Goes on with the blocks of a chunk. Where it is short, room for all marks would cost more than its counts.
+// Goes on with the blocks of a chunk. Where it is short, to fill all marks would cost as much as its counts.
 fn extend(bits: &[u32], next: usize, words: &[u64], chunk: Chunk, counts: &mut [u32])
     requires { ⌜ RowsIn (now words) (chunk .stride) (now bits) ⌝ }
     requires { ⌜ ChunkIn chunk ⌝ }

@@ -41,7 +41,12 @@ pub fn rank_candidate(
     ensures { λ _. ⌜ now (order .exit) ≡ orderOf (countsOf (stretchBit stretch (now (words .entry))) (span stretch) (now (bits .entry))) ++ drop (2 ^ length (now (bits .entry))) (now (order .entry)) ⌝ }
 {
     fill_bins(bits, words, stretch, layer, counts, ranks, bins);
-    from_bins(bins, order, span(stretch), bits.len(), roots)
+    let ranking = from_bins(bins, order, span(stretch), bits.len(), roots);
+    // One by one, as they have just been stored: a copy of both at once would wait for that.
+    Ranking {
+        division: ranking.division,
+        z: ranking.z,
+    }
 }
 
 // The counts of the bits' bins: all counted where no layer is lent, else one is among the counts of the run and the others come from the layer below.

@@ -66,7 +66,7 @@ fn no_counts() -> [u32; 4096]
     [0; 4096]
 }
 
-// The same where it has at most 256: more would cost a search of few blocks as much as its counts.
+// The same where it has at most 256: to fill more would cost a search of few blocks as much as its counts.
 fn few_counts() -> [u32; 256]
     ensures { λ r. ⌜ 256 ≡ length r ⌝ }
 {
