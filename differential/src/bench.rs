@@ -6,7 +6,7 @@ use answers::run::sound;
 use answers::{brute_force, brute_force_threads, from_bins, to_json, transform_data, Draws, Histogram};
 use std::{hint::black_box, time::Instant};
 
-fn seconds(run: &mut dyn FnMut()) -> f64 {
+pub fn seconds(run: &mut dyn FnMut()) -> f64 {
     let start = Instant::now();
     run();
     start.elapsed().as_secs_f64()

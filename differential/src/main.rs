@@ -1,9 +1,11 @@
 //! Our calls against the reference's, on drawn cases: `differential [SEED [CASES]]`. Or on recordings that take too long to be drawn: `differential widths`,
 //! `differential capacity`, `differential wide WIDTH [reference]`. Or recordings searched in many stretches: `differential stretches [SEED [CASES]]`. Or
 //! findings as text: `differential exchange [SEED [CASES]]`. Or what is known to differ: `differential differences`. Or their times: `differential bench`.
-//! Or the stack that our calls take: `differential stack`.
+//! Or beside those of an earlier commit: `differential before`. Or the stack that our calls take: `differential stack`.
 
 mod account;
+#[cfg(feature = "before")]
+mod before;
 mod bench;
 mod capacity;
 mod case;
@@ -27,6 +29,8 @@ fn main() {
     let args: Vec<String> = env::args().skip(1).collect();
     let first = args.first().map(String::as_str);
     match first {
+        #[cfg(feature = "before")]
+        Some("before") => return before::run(),
         Some("bench") => return bench::run(),
         Some("capacity") => return capacity::run(),
         Some("differences") => return differences::run(),
