@@ -11,7 +11,7 @@ pub mod run;
 mod sheet;
 
 pub use draws::Draws;
-pub use feeding::{capacity_bytes, cut, held, pieces, recording, valid, write_recording};
+pub use feeding::{capacity_bytes, cut, held, pieces, recording, valid, write_recording, CHUNK_ENDS, SHORT_CHUNK_ENDS};
 pub use rules::Rules;
 pub use sheet::Sheet;
 

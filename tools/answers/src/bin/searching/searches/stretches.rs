@@ -89,15 +89,9 @@ fn other_samplers(draws: &mut Draws) -> Case {
 fn at_ends_of_chunks(draws: &mut Draws) -> Case {
     let recording: Vec<u8> = (0..33_000).map(|t| if t % 32_768 < 2 { 9 } else { draws.below(8) as u8 }).collect();
     let pieces = cut(draws, &recording, 3);
-    let places = [
-        (0, 32_767), (0, 32_768), (0, 32_769), (1, 32_768), (1, 32_769), (63, 32_769), (63, 32_831), (64, 32_831), (64, 32_832), (64, 32_833), (65, 32_832),
-        (65, 32_833), (127, 32_833), (128, 32_896), (128, 32_897), (129, 33_000), (32_704, 33_000), (32_767, 32_767), (32_767, 32_768), (32_767, 32_769),
-        (32_767, 33_000), (32_768, 32_768), (32_768, 32_769), (32_768, 33_000), (32_769, 32_769), (32_769, 33_000), (33_000, 33_000), (32_769, 32_768),
-        (32_768, 33_001), (0, 4_095), (0, 4_096), (0, 4_097), (1, 4_096), (1, 4_097), (63, 4_096), (63, 4_097), (64, 4_160), (64, 4_161), (65, 4_160),
-        (65, 4_161), (28_672, 32_768), (28_672, 32_769), (28_735, 32_768), (28_735, 32_769),
-    ];
+    let places = [&CHUNK_ENDS[..], &[(32_768, 33_001)], &SHORT_CHUNK_ENDS].concat();
     let mut searches = vec![search(8, 5, 1)];
-    searches.extend(places.map(|(first, end)| in_stretch(first, end, search(8, 5, 1))));
+    searches.extend(places.into_iter().map(|(first, end)| in_stretch(first, end, search(8, 5, 1))));
     Case { block_size: 8, words: 8 * 516 + 3, pieces, searches }
 }
 
