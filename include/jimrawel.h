@@ -18,20 +18,23 @@
      jimrawel_start, a finding, a rank, an evaluation, two lengths, a plan, a text's length; not a ranking) then has every number 0;
      after 13 and 14, and after 17 of jimrawel_write_finding, the first 2^width entries of the scratch are 0; and where
      jimrawel_read_finding has read a text and the check refuses what it says, the order begins with the text's indices. Beside 25
-     nothing at all is written.
+     and 27 nothing at all is written.
    - Entries past those that a call writes are as lent.
 
    Records
 
-   - A sampler is 3 numbers: the block size B in bits, the number of lent words, and T, the bytes taken so far.
+   - A sampler is 4 numbers: the block size B in bits, the number of lent words, T, the bytes taken so far, and the bit order.
      Its words are lent anew with every call; no one else may change them, or the sampler, from start to the last search.
      n = T / (B / 8), rounded down, is its number of whole blocks (jimrawel_blocks).
-   - A finding is 24 numbers: the block size, the width k, the division, the bits of its score z as a double, and 20 bit entries, of
-     which the first k count; a search and a reading leave the others 0, and no call reads them. Beside it stands its bin order in a
-     buffer of its own.
+   - A finding is 25 numbers: the block size, the width k, the division, the bits of its score z as a double, 20 bit entries, of
+     which the first k count, and the bit order; a search and a reading leave the other bit entries 0, and no call reads them. Beside it
+     stands its bin order in a buffer of its own.
+   - The bit order is 1 where the low bit of a byte comes first and 0 where the high bit does. Start takes it, the sampler carries it to
+     the finding, and an evaluation goes by it. A record that is read with another number in its place is refused with 27.
    - A finding and its order as text are one object of RFC 8259 with the keys bits, sorted_indices, best_division and block_size, as the
-     upstream tool writes and reads it.
-   - Bit b of a block is bit 7 - b % 8 of its byte b / 8. The bin of a block is the sum of 2^i over the i whose bits[i] is set in it. */
+     upstream tool writes and reads it, and low_first, true or false, which that tool passes over.
+   - Bit b of a block is, in its byte b / 8, bit 7 - b % 8 where the high bit comes first, and bit b % 8 where the low bit does. The bin of
+     a block is the sum of 2^i over the i whose bits[i] is set in it. */
 
 #ifndef JIMRAWEL_H
 #define JIMRAWEL_H
@@ -44,8 +47,8 @@
 extern "C" {
 #endif
 
-#define JIMRAWEL_SAMPLER 3     /* numbers of a sampler */
-#define JIMRAWEL_FINDING 24    /* numbers of a finding */
+#define JIMRAWEL_SAMPLER 4     /* numbers of a sampler */
+#define JIMRAWEL_FINDING 25    /* numbers of a finding */
 #define JIMRAWEL_RANKING 2     /* numbers of a ranking */
 #define JIMRAWEL_EVALUATED 3   /* numbers of an evaluation */
 #define JIMRAWEL_LENGTHS 2     /* numbers of a split */
@@ -57,6 +60,10 @@ extern "C" {
 #define JIMRAWEL_DIVISION 2
 #define JIMRAWEL_Z 3
 #define JIMRAWEL_BITS 4
+#define JIMRAWEL_LOW_FIRST 24
+
+/* The place of the bit order in a sampler. */
+#define JIMRAWEL_SAMPLER_LOW_FIRST 3
 
 enum jimrawel_refusal {
     JIMRAWEL_OK = 0,
@@ -74,28 +81,32 @@ enum jimrawel_refusal {
     JIMRAWEL_TOO_MANY = 12,          /* above 16,777,216 blocks to evaluate; for a rank, C(B, k) above 2^32 */
     JIMRAWEL_NO_PERMUTATION = 13,    /* the order does not list every bin once */
     JIMRAWEL_BAD_DIVISION = 14,      /* the division is 0, or 2^k or more */
-    JIMRAWEL_BAD_TEXT = 16,          /* the text is no such object, or a number of its four keys is above 2^32 - 1 */
+    JIMRAWEL_BAD_TEXT = 16,          /* the text is no such object, or a number of it but a z_score is above 2^32 - 1 */
     JIMRAWEL_NO_ROOM = 17,           /* the output has fewer bytes than the text, or the order fewer entries than the text has indices */
     JIMRAWEL_BAD_STRETCH = 18,       /* first is above end, or end above the sampler's n */
     JIMRAWEL_SHORT_RECORD = 25,      /* a slice has fewer numbers than the record that is read from it or written to it */
-    JIMRAWEL_TOO_MANY_COUNTED = 26   /* the counts of a ranking add up to 2^32 or more */
+    JIMRAWEL_TOO_MANY_COUNTED = 26,  /* the counts of a ranking add up to 2^32 or more */
+    JIMRAWEL_BAD_BIT_ORDER = 27      /* a sampler or a finding that is read has a bit order that is neither 0 nor 1 */
 };
 
 /* Starts a recording of blocks of block_size bits.
-     words    lent; all 0 afterwards. S = words / block_size of them hold a row of 64 x S blocks for each bit of a block:
-              capacity is 64 x S blocks, and never more than 16,777,216.
-     sampler  at least 3 numbers; the fresh sampler is written.
+     low_first  true where the recorder packs the first bit of a byte at its low end, false where at its high end.
+     words      lent; all 0 afterwards. S = words / block_size of them hold a row of 64 x S blocks for each bit of a block:
+                capacity is 64 x S blocks, and never more than 16,777,216.
+     sampler    at least 4 numbers; the fresh sampler is written.
    Refusals: 25, 1. */
-uint32_t jimrawel_start(size_t block_size, uint64_t *words, size_t words_len, uint64_t *sampler, size_t sampler_len);
+uint32_t jimrawel_start(
+    size_t block_size, bool low_first, uint64_t *words, size_t words_len, uint64_t *sampler, size_t sampler_len);
 
 /* Takes the next piece of the recording, of any length, also empty; a block may be cut anywhere.
      sampler  as start or the last feed left it; the next one is written in its place. As lent where refused.
      words    the same words, as start or the last feed left them.
      piece    is read.
-   Refusals: 25, 4, 5. After 5 a shorter piece may still be taken. */
+   Refusals: 25, 27, 4, 5. After 5 a shorter piece may still be taken. */
 uint32_t jimrawel_feed(uint64_t *sampler, size_t sampler_len, uint64_t *words, size_t words_len, const uint8_t *piece, size_t piece_len);
 
-/* n: the whole blocks that a sampler has taken, an unfinished one not among them. 0 where the slice has fewer than 3 numbers, or B is below 8.
+/* n: the whole blocks that a sampler has taken, an unfinished one not among them. 0 where the slice has fewer than 4 numbers, the bit order is
+   neither 0 nor 1, or B is below 8.
      sampler  as start or the last feed left it; it is read. */
 size_t jimrawel_blocks(const uint64_t *sampler, size_t sampler_len);
 
@@ -105,8 +116,8 @@ size_t jimrawel_blocks(const uint64_t *sampler, size_t sampler_len);
               returns it is all of them. Where first is end there is no block, and the answer is bits 0 to k - 1, division 1, z 0.
      bins     at least 2^k entries; the winner's counts are written to the first 2^k.
      order    at least 2^k entries; the winner's bin order is written to the first 2^k.
-     finding  at least 24 numbers; the winner.
-   Refusals: 25, 4, 18, 2, 3, 7. */
+     finding  at least 25 numbers; the winner, with the sampler's bit order.
+   Refusals: 25, 27, 4, 18, 2, 3, 7. */
 uint32_t jimrawel_brute_force_threads(
     const uint64_t *sampler, size_t sampler_len, const uint64_t *words, size_t words_len, size_t first, size_t end, size_t k,
     uint32_t *bins, size_t bins_len, uint32_t *order, size_t order_len, uint64_t *finding, size_t finding_len);
@@ -115,7 +126,7 @@ uint32_t jimrawel_brute_force_threads(
      lower, upper  two stores of at least W entries each, W being the largest C(B, d) x 2^d for d from 1 to max(1, k - 1).
                    Their first W entries are used and left with anything in them.
      The rest as for the direct search.
-   Refusals: 25, 4, 18, 2, 3, 6, 7. */
+   Refusals: 25, 27, 4, 18, 2, 3, 6, 7. */
 uint32_t jimrawel_brute_force(
     const uint64_t *sampler, size_t sampler_len, const uint64_t *words, size_t words_len, size_t first, size_t end, size_t k,
     uint32_t *lower, size_t lower_len, uint32_t *upper, size_t upper_len,
@@ -136,44 +147,44 @@ uint32_t jimrawel_from_bins(
     size_t k, const uint32_t *bins, size_t bins_len, uint32_t *order, size_t order_len, uint64_t *ranking, size_t ranking_len);
 
 /* Checks a finding and its order before they are used: what a search left always passes.
-     finding  at least 24 numbers, each taken as it stands, however large. z and the bit entries past the width are never read, nor is any
-              bit entry where the width is refused: they may be uninitialised.
+     finding  at least 25 numbers, each taken as it stands, however large. z and the bit entries past the width are never read, nor is any
+              bit entry where the width is refused: they may be uninitialised. Either bit order passes.
      order    2^width entries.
      scratch  at least 2^width entries; its first 2^width are 0 afterwards unless the refusal comes before 13.
-   Refusals: 25, 1, 2, 9, 10, 11, 7, 13, 14. */
+   Refusals: 25, 27, 1, 2, 9, 10, 11, 7, 13, 14. */
 uint32_t jimrawel_validate(
     const uint64_t *finding, size_t finding_len, const uint32_t *order, size_t order_len, uint32_t *scratch, size_t scratch_len);
 
-/* Evaluates a finding on the whole blocks of other bytes.
+/* Evaluates a finding on the whole blocks of other bytes, whose bits are taken in the finding's bit order.
      finding, order, scratch  as for the check; after success the counts stand in the scratch's first 2^width entries.
      bytes      are read; what is left after the last whole block counts nowhere.
      evaluated  at least 3 numbers: how many blocks are in the first `division` bins of the order; 1 where there is a score and 0 for "no
                 sample", which is where there is no block; the bits of the score z, with its sign, as a double. For "no sample" the third
                 number is 0 and stands for no z: look at the second first.
-   Refusals: 25, 1, 2, 9, 10, 11, 12, 7, 13, 14. */
+   Refusals: 25, 27, 1, 2, 9, 10, 11, 12, 7, 13, 14. */
 uint32_t jimrawel_evaluate_histogram(
     const uint64_t *finding, size_t finding_len, const uint32_t *order, size_t order_len, const uint8_t *bytes, size_t bytes_len,
     uint32_t *scratch, size_t scratch_len, uint64_t *evaluated, size_t evaluated_len);
 
-/* Writes a finding and its order as text: {"bits":[..],"sorted_indices":[..],"best_division":..,"block_size":..}, in decimal digits without
-   leading zeros and without white space, the first `width` bits alone and no z. No zero byte ends it.
+/* Writes a finding and its order as text: {"bits":[..],"sorted_indices":[..],"best_division":..,"block_size":..,"low_first":..}, in decimal
+   digits without leading zeros and without white space, the first `width` bits alone and no z; low_first is true or false. No zero byte ends it.
      finding, order, scratch  as for the check, which is made first; the scratch is left as by the check, after 17 too.
      out      the text is written to its first bytes. jimrawel_longest_text(width) bytes are always enough.
      length   one number, apart from the slices; how many bytes were written, or 0 where refused.
-   Refusals: 25, 1, 2, 9, 10, 11, 7, 13, 14, 17. */
+   Refusals: 25, 27, 1, 2, 9, 10, 11, 7, 13, 14, 17. */
 uint32_t jimrawel_write_finding(
     const uint64_t *finding, size_t finding_len, const uint32_t *order, size_t order_len, uint32_t *scratch, size_t scratch_len,
     uint8_t *out, size_t out_len, size_t *length);
 
 /* Reads a finding and its order from a text: such an object and nothing beside it, its keys in any order, each once and without an
-   escape, white space of RFC 8259 around every token. The four keys hold whole numbers in digits alone, without leading zeros, up to
-   2^32 - 1. A z_score, any number of RFC 8259, may stand among them, at most once, and is passed over: z is 0. The width is the number
-   of bits; more than 20 are refused as a width above 20.
+   escape, white space of RFC 8259 around every token. The first four keys hold whole numbers in digits alone, without leading zeros, up to
+   2^32 - 1. low_first may be absent, which says false: the high bit comes first. A z_score, any number of RFC 8259, may stand among them,
+   at most once, and is passed over: z is 0. The width is the number of bits; more than 20 are refused as a width above 20.
      text     is read, all of it.
      order    at least as many entries as the text has indices, which are written to its first entries; text_len / 2 entries are always
               enough. As lent after 16 and 17.
      scratch  at least 2^width entries; as lent after 16 and 17, else as the check leaves it. text_len / 2 entries are always enough.
-     finding  at least 24 numbers; what was read, its bit entries past the width 0.
+     finding  at least 25 numbers; what was read, its bit entries past the width 0.
    Refusals: 25, 16, 17, then the check's of the finding and the indices: 1, 2, 9, 10, 11, 7, 13, 14. */
 uint32_t jimrawel_read_finding(
     const uint8_t *text, size_t text_len, uint32_t *order, size_t order_len, uint32_t *scratch, size_t scratch_len,

@@ -6,9 +6,9 @@
 A case is a line, each list of numbers with commas between them:
 
     read TEXT ORDER SCRATCH                    the text's bytes, the entries of the order buffer and of the scratch
-    write NUMBERS INDICES SCRATCH OUT          block size, width, division, z and 20 bits; the order; the entries of the scratch and of the output
+    write NUMBERS INDICES SCRATCH OUT          block size, width, division, z, 20 bits and low_first; the order; the entries of the scratch and of the output
 
-Every entry of a buffer is 99 before. A reading's answer is three lines: the refusal and the finding's 24 numbers; the order buffer; the scratch. A
+Every entry of a buffer is 99 before. A reading's answer is three lines: the refusal and the finding's 25 numbers; the order buffer; the scratch. A
 writing's: the refusal and the length; the output; the scratch. Each text is judged a second time, by Python's json: where both differ it ends."""
 import json
 import re
@@ -18,12 +18,12 @@ LENT = 99
 LARGEST = 2 ** 32 - 1
 WIDEST = 20
 
-# RFC 8259, its rules' names; white space stands around tokens. The four keys hold int alone.
+# RFC 8259, its rules' names; white space stands around tokens. The four keys hold int alone, low_first true or false.
 WS = r'[ \t\n\r]*'
 INT = r'(?:0|[1-9][0-9]*)'
 NUMBER = rf'-?{INT}(?:\.[0-9]+)?(?:[eE][+-]?[0-9]+)?'
 ARRAY = rf'\[{WS}(?:{INT}{WS}(?:,{WS}{INT}{WS})*)?\]'
-MEMBER = rf'"(?:(?:bits|sorted_indices)"{WS}:{WS}{ARRAY}|(?:best_division|block_size)"{WS}:{WS}{INT}|z_score"{WS}:{WS}{NUMBER})'
+MEMBER = rf'"(?:(?:bits|sorted_indices)"{WS}:{WS}{ARRAY}|(?:best_division|block_size)"{WS}:{WS}{INT}|low_first"{WS}:{WS}(?:true|false)|z_score"{WS}:{WS}{NUMBER})'
 TEXT = re.compile(rf'{WS}\{{{WS}{MEMBER}{WS}(?:,{WS}{MEMBER}{WS})*\}}{WS}')
 PAIR = re.compile(rf'"(\w+)"{WS}:([^"}}]*)')
 ARRAYS = 'bits', 'sorted_indices'
@@ -38,16 +38,19 @@ def numbers(digits):
 
 
 def said(text):
-    """What a text says, as a dictionary of the four keys; None where it is no such object."""
+    """What a text says, as a dictionary of the four keys and low_first; None where it is no such object."""
     text = text.decode('latin-1')
     if not TEXT.fullmatch(text):
         return None
     pairs = PAIR.findall(text)
-    values = {key: numbers(re.findall('[0-9]+', value)) for key, value in pairs if key != 'z_score'}
-    scores = sum(key == 'z_score' for key, _ in pairs)
-    if scores > 1 or len(pairs) != 4 + scores or len(values) != 4 or None in values.values():
+    values = dict(pairs)
+    if len(values) != len(pairs) or not values.keys() >= {*ARRAYS, *WHOLES}:
         return None
-    return {key: value if key in ARRAYS else value[0] for key, value in values.items()}
+    found = {key: numbers(re.findall('[0-9]+', values[key])) for key in ARRAYS + WHOLES}
+    if None in found.values():
+        return None
+    low_first = 'true' in values.get('low_first', 'false')
+    return {key: value if key in ARRAYS else value[0] for key, value in found.items()} | {'low_first': low_first}
 
 
 class Number(str):
@@ -67,14 +70,17 @@ def said_by_json(text):
     if type(pairs) is not tuple or b'\\' in text:
         return None
     values = dict(pairs)
-    if len(values) != len(pairs) or type(values.pop('z_score', Number())) is not Number or values.keys() != {*ARRAYS, *WHOLES}:
+    low_first = values.pop('low_first', False)
+    if len(dict(pairs)) != len(pairs) or type(low_first) is not bool:
+        return None
+    if type(values.pop('z_score', Number())) is not Number or values.keys() != {*ARRAYS, *WHOLES}:
         return None
     for key, value in values.items():
         digits = value if key in ARRAYS else [value]
         if type(digits) is not list or not all(type(d) is Number and d.isdigit() for d in digits) or numbers(digits) is None:
             return None
         values[key] = numbers(digits) if key in ARRAYS else int(value)
-    return values
+    return values | {'low_first': low_first}
 
 
 def check_refusal(block_size, width, bits, division, order, scratch):
@@ -110,26 +116,27 @@ def read(text, order, scratch):
     values = said(text)
     assert values == said_by_json(text), text
     if values is None:
-        return 16, [0] * 24, [LENT] * order, [LENT] * scratch
+        return 16, [0] * 25, [LENT] * order, [LENT] * scratch
     bits, indices, division, block_size = values['bits'], values['sorted_indices'], values['best_division'], values['block_size']
     if len(indices) > order:
-        return 17, [0] * 24, [LENT] * order, [LENT] * scratch
+        return 17, [0] * 25, [LENT] * order, [LENT] * scratch
     width = len(bits)
     refusal = check_refusal(block_size, width, bits, division, indices, scratch)
-    finding = [0] * 24 if refusal else [block_size, width, division, 0] + bits + [0] * (WIDEST - width)
+    finding = [0] * 25 if refusal else [block_size, width, division, 0] + bits + [0] * (WIDEST - width) + [int(values['low_first'])]
     return refusal, finding, indices + [LENT] * (order - len(indices)), checked(refusal, width, scratch)
 
 
-def text_of(bits, indices, division, block_size):
+def text_of(bits, indices, division, block_size, low_first):
+    low_first = 'true' if low_first else 'false'
     bits, indices = (','.join(map(str, ns)) for ns in (bits, indices))
-    return f'{{"bits":[{bits}],"sorted_indices":[{indices}],"best_division":{division},"block_size":{block_size}}}'.encode()
+    return f'{{"bits":[{bits}],"sorted_indices":[{indices}],"best_division":{division},"block_size":{block_size},"low_first":{low_first}}}'.encode()
 
 
 def write(finding, order, scratch, out):
     """The refusal, the length, the output and the scratch."""
-    block_size, width, division, _, *bits = finding
+    block_size, width, division, _, *bits, low_first = finding
     refusal = check_refusal(block_size, width, bits, division, order, scratch)
-    text = b'' if refusal else text_of(bits[:width], order, division, block_size)
+    text = b'' if refusal else text_of(bits[:width], order, division, block_size, low_first)
     after = checked(refusal, width, scratch)
     if len(text) > out:
         refusal, text = 17, b''

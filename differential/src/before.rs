@@ -1,15 +1,33 @@
-//! Times of an earlier commit's searches, of ours and of the reference's, in turn in one run, on drawn bytes. The earlier library is linked beside ours with
-//! other names for its calls (differential/run); they are declared here as that commit has them, and have to be changed for another.
+//! Times of an earlier commit's searches, feeds, evaluations and texts, of ours and of the reference's, in turn in one run, on drawn bytes. The earlier library
+//! is linked beside ours with other names for its calls (differential/run); they are declared here as commit 1037adc has them, and have to be changed for
+//! another. There the high bit always comes first: start takes no bit order, a sampler has 3 numbers and a finding 24, and no text has a low_first.
 
 use crate::bench::seconds;
 use crate::ours;
-use crate::recordings::store_size;
-use answers::{brute_force, brute_force_threads, transform_data, Draws};
+use crate::recordings::{numbers, numbers_in, store_size};
+use answers::run::sound;
+use answers::{
+    brute_force, brute_force_threads, evaluate_histogram, reversed, to_json, transform_data, with_low_first, Draws, Finding, Histogram,
+};
+use std::hint::black_box;
 
 extern "C" {
+    fn before_jimrawel_start(
+        block_size: usize,
+        words: *mut u64, words_len: usize,
+        sampler: *mut u64, sampler_len: usize,
+    ) -> u32;
+
+    fn before_jimrawel_feed(
+        sampler: *mut u64, sampler_len: usize,
+        words: *mut u64, words_len: usize,
+        piece: *const u8, piece_len: usize,
+    ) -> u32;
+
     fn before_jimrawel_brute_force_threads(
         sampler: *const u64, sampler_len: usize,
         words: *const u64, words_len: usize,
+        first: usize, end: usize,
         k: usize,
         bins: *mut u32, bins_len: usize,
         order: *mut u32, order_len: usize,
@@ -19,11 +37,35 @@ extern "C" {
     fn before_jimrawel_brute_force(
         sampler: *const u64, sampler_len: usize,
         words: *const u64, words_len: usize,
+        first: usize, end: usize,
         k: usize,
-        first: *mut u32, first_len: usize,
-        second: *mut u32, second_len: usize,
+        lower: *mut u32, lower_len: usize,
+        upper: *mut u32, upper_len: usize,
         bins: *mut u32, bins_len: usize,
         order: *mut u32, order_len: usize,
+        finding: *mut u64, finding_len: usize,
+    ) -> u32;
+
+    fn before_jimrawel_evaluate_histogram(
+        finding: *const u64, finding_len: usize,
+        order: *const u32, order_len: usize,
+        bytes: *const u8, bytes_len: usize,
+        scratch: *mut u32, scratch_len: usize,
+        evaluated: *mut u64, evaluated_len: usize,
+    ) -> u32;
+
+    fn before_jimrawel_write_finding(
+        finding: *const u64, finding_len: usize,
+        order: *const u32, order_len: usize,
+        scratch: *mut u32, scratch_len: usize,
+        out: *mut u8, out_len: usize,
+        length: *mut usize,
+    ) -> u32;
+
+    fn before_jimrawel_read_finding(
+        text: *const u8, text_len: usize,
+        order: *mut u32, order_len: usize,
+        scratch: *mut u32, scratch_len: usize,
         finding: *mut u64, finding_len: usize,
     ) -> u32;
 }
@@ -37,12 +79,23 @@ const SEARCHES: [(usize, usize, usize, usize); 27] = [
     (64, 4, 1_000_000, 1),
 ];
 
+/// Block size, bytes and the feeds of one turn, each after a start.
+const FEEDS: [(usize, usize, usize); 7] =
+    [(8, 64, 1_000), (8, 5_000, 100), (64, 8_000, 100), (4_096, 65_536, 10), (8, 1_000_000, 1), (128, 1_000_000, 1), (256, 10_000_000, 1)];
+
+/// Block size, width, bytes and the evaluations of one turn.
+const EVALUATIONS: [(usize, usize, usize, usize); 6] =
+    [(8, 1, 64, 1_000), (8, 8, 5_000, 100), (64, 3, 8_000, 100), (8, 8, 1_000_000, 1), (128, 2, 1_000_000, 1), (4_096, 12, 1_000_000, 1)];
+
+/// Width and the texts of one turn.
+const TEXTS: [(usize, usize); 6] = [(1, 1_000), (2, 1_000), (4, 500), (8, 100), (16, 1), (20, 1)];
+
 /// The least times of the three over turns of some seconds in all, two at the least; the reference takes part in fewer.
-fn compare(name: &str, searches: usize, before: &mut dyn FnMut(), now: &mut dyn FnMut(), reference: &mut dyn FnMut()) {
+fn compare(name: &str, calls: usize, before: &mut dyn FnMut(), now: &mut dyn FnMut(), reference: &mut dyn FnMut()) {
     let (mut best, mut all, mut turns) = ([f64::INFINITY; 3], [0.0; 2], 0);
     let turn = |best: &mut f64, all: &mut f64, run: &mut dyn FnMut()| {
-        let time = seconds(&mut || (0..searches).for_each(|_| run()));
-        *best = best.min(time / searches as f64);
+        let time = seconds(&mut || (0..calls).for_each(|_| run()));
+        *best = best.min(time / calls as f64);
         *all += time;
     };
     while turns < 2 || all[0] < 4.0 {
@@ -64,18 +117,25 @@ fn compare(name: &str, searches: usize, before: &mut dyn FnMut(), now: &mut dyn 
     println!("| {name} | {times} | {:.2} | {:.2} | {:.2} | {turns} |", before / reference, now / reference, now / before);
 }
 
+/// A finding of the earlier commit with its bit order, as it has one now.
+fn high_first(earlier: [u64; 24]) -> [u64; 25] {
+    let mut numbers = [0; 25];
+    numbers[..24].copy_from_slice(&earlier);
+    numbers
+}
+
 fn searches(block_size: usize, k: usize, bytes: usize, searches: usize) {
     let data = Draws::new(1).bytes(bytes);
     let blocks = bytes / (block_size / 8);
     let mut words = vec![0; block_size * blocks.div_ceil(64)];
-    let mut sampler = [0; 3];
-    assert_eq!(ours::start(block_size, &mut words, &mut sampler), 0);
+    let mut sampler = [0; 4];
+    assert_eq!(ours::start(block_size, false, &mut words, &mut sampler), 0);
     assert_eq!(ours::feed(&mut sampler, &mut words, &data), 0);
     let rows = transform_data(&data, block_size);
     let (size, m) = (store_size(block_size, k).unwrap(), 1 << k);
     let room = || [vec![0_u32; size], vec![0; size], vec![0; m], vec![0; m]];
     let [mut lower, mut upper, mut bins, mut order] = room();
-    let [mut first, mut second, mut earlier_bins, mut earlier_order] = room();
+    let [mut earlier_lower, mut earlier_upper, mut earlier_bins, mut earlier_order] = room();
     let (mut earlier, mut found, mut expected) = ([0_u64; 24], None, None);
     let name = format!("B {block_size}, k {k}, {bytes} bytes");
 
@@ -85,7 +145,7 @@ fn searches(block_size: usize, k: usize, bytes: usize, searches: usize) {
         &mut || {
             let refusal = unsafe {
                 before_jimrawel_brute_force(
-                    sampler.as_ptr(), 3, words.as_ptr(), words.len(), k, first.as_mut_ptr(), size, second.as_mut_ptr(), size,
+                    sampler.as_ptr(), 3, words.as_ptr(), words.len(), 0, blocks, k, earlier_lower.as_mut_ptr(), size, earlier_upper.as_mut_ptr(), size,
                     earlier_bins.as_mut_ptr(), m, earlier_order.as_mut_ptr(), m, earlier.as_mut_ptr(), 24,
                 )
             };
@@ -94,7 +154,7 @@ fn searches(block_size: usize, k: usize, bytes: usize, searches: usize) {
         &mut || found = Some(ours::layered(&sampler, &words, 0..blocks, k, [&mut lower, &mut upper], &mut bins, &mut order)),
         &mut || expected = brute_force(&rows, block_size, k),
     );
-    assert_eq!(found.take().unwrap().finding, earlier);
+    assert_eq!(found.take().unwrap().finding, high_first(earlier));
     assert_eq!(expected.take().unwrap().z.to_bits(), earlier[3]);
     compare(
         &format!("{name}, direct"),
@@ -102,7 +162,7 @@ fn searches(block_size: usize, k: usize, bytes: usize, searches: usize) {
         &mut || {
             let refusal = unsafe {
                 before_jimrawel_brute_force_threads(
-                    sampler.as_ptr(), 3, words.as_ptr(), words.len(), k,
+                    sampler.as_ptr(), 3, words.as_ptr(), words.len(), 0, blocks, k,
                     earlier_bins.as_mut_ptr(), m, earlier_order.as_mut_ptr(), m, earlier.as_mut_ptr(), 24,
                 )
             };
@@ -111,14 +171,132 @@ fn searches(block_size: usize, k: usize, bytes: usize, searches: usize) {
         &mut || found = Some(ours::direct(&sampler, &words, 0..blocks, k, &mut bins, &mut order)),
         &mut || expected = brute_force_threads(&rows, block_size, k, 1),
     );
-    assert_eq!(found.unwrap().finding, earlier);
+    assert_eq!(found.unwrap().finding, high_first(earlier));
     assert_eq!(expected.unwrap().z.to_bits(), earlier[3]);
     assert!(bins == earlier_bins && order == earlier_order);
 }
 
+/// A start and a feed of all bytes, ours in both bit orders, each beside the earlier one with the high bit first.
+fn feeds(block_size: usize, bytes: usize, feeds: usize) {
+    let data = Draws::new(1).bytes(bytes);
+    let room = || vec![0_u64; block_size * (bytes / (block_size / 8)).div_ceil(64)];
+    let (mut earlier, mut words) = (room(), room());
+    let (mut earlier_sampler, mut sampler) = ([0; 3], [0; 4]);
+    for (low_first, name) in [(false, ""), (true, ", low first")] {
+        compare(
+            &format!("B {block_size}, {bytes} bytes, feeding{name}"),
+            feeds,
+            &mut || {
+                let (sampler, data) = (earlier_sampler.as_mut_ptr(), black_box(&data));
+                let refusals = unsafe {
+                    [
+                        before_jimrawel_start(block_size, earlier.as_mut_ptr(), earlier.len(), sampler, 3),
+                        before_jimrawel_feed(sampler, 3, earlier.as_mut_ptr(), earlier.len(), data.as_ptr(), data.len()),
+                    ]
+                };
+                assert_eq!(refusals, [0; 2]);
+            },
+            &mut || {
+                assert_eq!(ours::start(block_size, low_first, &mut words, &mut sampler), 0);
+                assert_eq!(ours::feed(&mut sampler, &mut words, black_box(&data)), 0);
+            },
+            &mut || drop(black_box(transform_data(black_box(&data), block_size))),
+        );
+        assert_eq!((&sampler[..3], sampler[3]), (&earlier_sampler[..], low_first as u64));
+        assert_eq!(words == earlier, !low_first);
+    }
+}
+
+/// Ours in both bit orders, each beside the earlier one with the high bit first.
+fn evaluations(block_size: usize, k: usize, bytes: usize, evaluations: usize) {
+    let draws = &mut Draws::new(4);
+    let (bits, order, data) = (draws.subset(block_size, k), draws.shuffled(1 << k), draws.bytes(bytes));
+    let finding = Finding { block_size, bits, order, division: 1, z: 0.0 };
+    let order: Vec<u32> = finding.order.iter().map(|&bin| bin as u32).collect();
+    let (mut earlier_counts, mut counts) = (vec![0_u32; 1 << k], vec![0; 1 << k]);
+    let mut before = |data: &[u8]| {
+        let mut evaluated = [0; 3];
+        let refusal = unsafe {
+            before_jimrawel_evaluate_histogram(
+                numbers(&finding).as_ptr(), 24, order.as_ptr(), order.len(), data.as_ptr(), data.len(),
+                earlier_counts.as_mut_ptr(), 1 << k, evaluated.as_mut_ptr(), 3,
+            )
+        };
+        assert_eq!(refusal, 0);
+        evaluated
+    };
+    for (low_first, name) in [(false, ""), (true, ", low first")] {
+        let (mut earlier, mut now) = ([0; 3], [0; 3]);
+        compare(
+            &format!("B {block_size}, k {k}, {bytes} bytes, evaluation{name}"),
+            evaluations,
+            &mut || earlier = before(black_box(&data)),
+            &mut || now = ours::evaluate(&numbers_in(&finding, low_first), &order, black_box(&data), &mut counts).1,
+            &mut || drop(black_box(evaluate_histogram(&finding, black_box(&data)))),
+        );
+        assert_eq!(now == earlier, !low_first);
+        assert_eq!(now, before(&if low_first { reversed(&data) } else { data.clone() }));
+    }
+}
+
+/// Each writes a finding and reads its own text, the reference's by serde and checked.
+fn texts(k: usize, texts: usize) {
+    let finding = sound(&mut Draws::new(3), k);
+    let (numbers, histogram) = (numbers(&finding), Histogram::of(&finding));
+    let order: Vec<u32> = finding.order.iter().map(|&bin| bin as u32).collect();
+    let (m, room) = (1 << k, ours::longest_text(k));
+    let (mut earlier_scratch, mut scratch) = (vec![0_u32; m], vec![0; m]);
+    let (mut earlier_out, mut out) = (vec![0; room], vec![0; room]);
+    let (mut earlier_length, mut length) = (0, 0);
+    compare(
+        &format!("a finding of width {k}, written"),
+        texts,
+        &mut || {
+            let refusal = unsafe {
+                before_jimrawel_write_finding(
+                    black_box(&numbers).as_ptr(), 24, order.as_ptr(), m, earlier_scratch.as_mut_ptr(), m, earlier_out.as_mut_ptr(), room, &mut earlier_length,
+                )
+            };
+            assert_eq!(refusal, 0);
+        },
+        &mut || length = ours::write(black_box(&numbers), &order, &mut scratch, &mut out).1,
+        &mut || drop(black_box(black_box(&histogram).write())),
+    );
+    let there = to_json(&finding);
+    assert!(earlier_out[..earlier_length] == *there.as_bytes() && out[..length] == *with_low_first(&there, false).as_bytes());
+
+    let (mut earlier_order, mut read_order) = (vec![0_u32; m], vec![0; m]);
+    let (mut earlier, mut read) = ([0; 24], [0; 25]);
+    compare(
+        &format!("a finding of width {k}, read"),
+        texts,
+        &mut || {
+            let text = black_box(&earlier_out[..earlier_length]);
+            let refusal = unsafe {
+                before_jimrawel_read_finding(
+                    text.as_ptr(), text.len(), earlier_order.as_mut_ptr(), m, earlier_scratch.as_mut_ptr(), m, earlier.as_mut_ptr(), 24,
+                )
+            };
+            assert_eq!(refusal, 0);
+        },
+        &mut || read = ours::read(black_box(&out[..length]), &mut read_order, &mut scratch).1,
+        &mut || black_box(Histogram::from_slice(black_box(there.as_bytes()))).validate(),
+    );
+    assert!(read == high_first(earlier) && read_order == earlier_order && read_order == order);
+}
+
 pub fn run() {
-    println!("| Search | before, µs | now, µs | reference, µs | before / reference | now / reference | now / before | turns |");
+    println!("| Call | before, µs | now, µs | reference, µs | before / reference | now / reference | now / before | turns |");
     println!("|---|---|---|---|---|---|---|---|");
+    for (block_size, bytes, turn) in FEEDS {
+        feeds(block_size, bytes, turn);
+    }
+    for (block_size, k, bytes, turn) in EVALUATIONS {
+        evaluations(block_size, k, bytes, turn);
+    }
+    for (k, turn) in TEXTS {
+        texts(k, turn);
+    }
     for (block_size, k, bytes, turn) in SEARCHES {
         searches(block_size, k, bytes, turn);
     }

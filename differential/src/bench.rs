@@ -1,9 +1,11 @@
 //! Times of our calls and of the reference's, in one run, on drawn bytes.
 
 use crate::ours;
-use crate::recordings::{numbers, store_size};
+use crate::recordings::{numbers, numbers_in, store_size};
 use answers::run::sound;
-use answers::{brute_force, brute_force_threads, from_bins, to_json, transform_data, Draws, Histogram};
+use answers::{
+    brute_force, brute_force_threads, evaluate_histogram, from_bins, reversed, to_json, transform_data, with_low_first, Draws, Finding, Histogram,
+};
 use std::{hint::black_box, time::Instant};
 
 pub fn seconds(run: &mut dyn FnMut()) -> f64 {
@@ -12,8 +14,12 @@ pub fn seconds(run: &mut dyn FnMut()) -> f64 {
     start.elapsed().as_secs_f64()
 }
 
-/// The least time of ours and of the reference's over a few runs in turn: more runs where one is short.
-fn compare(name: &str, ours: &mut dyn FnMut(), reference: &mut dyn FnMut()) {
+/// The most that a call may take with the low bit first, beside the high bit first in the same run.
+const LOW_FIRST: f64 = 1.1;
+
+/// The least time of ours and of the reference's over a few runs in turn: more runs where one is short. Answers their ratio. Of a row with the low bit first
+/// the other side is ours too, with the high bit first and the same bytes.
+fn compare(name: &str, ours: &mut dyn FnMut(), reference: &mut dyn FnMut()) -> f64 {
     let (mut best, mut all, mut runs) = ([f64::INFINITY; 2], 0.0, 0);
     while runs == 0 || (all < 2.0 && runs < 200) {
         let times = [seconds(ours), seconds(reference)];
@@ -22,25 +28,27 @@ fn compare(name: &str, ours: &mut dyn FnMut(), reference: &mut dyn FnMut()) {
         runs += 1;
     }
     println!("| {name} | {:.2} | {:.2} | {:.2} |", best[0] * 1e3, best[1] * 1e3, best[0] / best[1]);
+    best[0] / best[1]
 }
 
-fn searches(block_size: usize, k: usize, bytes: usize) {
+/// Answers the ratio of a feeding with the low bit first to one with the high bit first, both ours.
+fn searches(block_size: usize, k: usize, bytes: usize) -> f64 {
     let data = Draws::new(1).bytes(bytes);
     let blocks = bytes / (block_size / 8);
     let mut words = vec![0; block_size * blocks.div_ceil(64)];
-    let mut sampler = [0; 3];
+    let mut sampler = [0; 4];
     let name = format!("B {block_size}, k {k}, {} MB", bytes / 1_000_000);
 
-    compare(
-        &format!("{name}, feeding"),
-        &mut || {
-            assert_eq!(ours::start(block_size, &mut words, &mut sampler), 0);
-            assert_eq!(ours::feed(&mut sampler, &mut words, black_box(&data)), 0);
-        },
-        &mut || {
-            black_box(transform_data(black_box(&data), block_size));
-        },
-    );
+    let (mut low_words, mut low_sampler) = (words.clone(), [0; 4]);
+    let feed = |low_first: bool, words: &mut [u64], sampler: &mut [u64]| {
+        assert_eq!(ours::start(block_size, low_first, words, sampler), 0);
+        assert_eq!(ours::feed(sampler, words, black_box(&data)), 0);
+    };
+    compare(&format!("{name}, feeding"), &mut || feed(false, &mut words, &mut sampler), &mut || {
+        black_box(transform_data(black_box(&data), block_size));
+    });
+    let mut low = || feed(true, &mut low_words, &mut low_sampler);
+    let ratio = compare(&format!("{name}, feeding, low first beside high first"), &mut low, &mut || feed(false, &mut words, &mut sampler));
 
     let rows = transform_data(&data, block_size);
     let size = store_size(block_size, k).unwrap();
@@ -59,6 +67,28 @@ fn searches(block_size: usize, k: usize, bytes: usize) {
         &mut || expected = brute_force_threads(&rows, block_size, k, 1),
     );
     assert_eq!(found.unwrap().finding[3], expected.unwrap().z.to_bits());
+    ratio
+}
+
+/// Answers the ratio of an evaluation with the low bit first to one with the high bit first, both ours.
+fn evaluations(block_size: usize, k: usize, bytes: usize) -> f64 {
+    let draws = &mut Draws::new(4);
+    let (bits, order, data) = (draws.subset(block_size, k), draws.shuffled(1 << k), draws.bytes(bytes));
+    let finding = Finding { block_size, bits, order, division: 1, z: 0.0 };
+    let order: Vec<u32> = finding.order.iter().map(|&bin| bin as u32).collect();
+    let evaluate = |low_first: bool, data: &[u8]| {
+        let mut counts = vec![0; 1 << k];
+        let (refusal, evaluated) = ours::evaluate(&numbers_in(&finding, low_first), &order, black_box(data), &mut counts);
+        assert_eq!(refusal, 0);
+        evaluated
+    };
+    let name = format!("B {block_size}, k {k}, {} MB, evaluation", bytes / 1_000_000);
+    let (mut high, mut low, mut expected) = ([0; 3], [0; 3], None);
+    compare(&name, &mut || high = evaluate(false, &data), &mut || expected = Some(evaluate_histogram(&finding, black_box(&data))));
+    assert_eq!(high[2], expected.unwrap().z.to_bits());
+    let ratio = compare(&format!("{name}, low first beside high first"), &mut || low = evaluate(true, &data), &mut || high = evaluate(false, &data));
+    assert_eq!(low, evaluate(false, &reversed(&data)));
+    ratio
 }
 
 /// One ranking of 2^k bins, by drawn counts of which many are equal.
@@ -89,7 +119,8 @@ fn faster<'a>(ways: [&'a mut dyn FnMut(); 2]) -> &'a mut dyn FnMut() {
 /// A finding of a width, its order drawn, as text: ours with its check; the reference's type by the faster of serde's ways, then checked too.
 fn exchange(k: usize) {
     let finding = sound(&mut Draws::new(3), k);
-    let (text, histogram) = (to_json(&finding), Histogram::of(&finding));
+    let (there, histogram) = (to_json(&finding), Histogram::of(&finding));
+    let text = with_low_first(&there, false);
     let numbers = numbers(&finding);
     let order: Vec<u32> = finding.order.iter().map(|&bin| bin as u32).collect();
     let (mut scratch, mut out, mut length) = (vec![0; 1 << k], vec![0; ours::longest_text(k)], 0);
@@ -102,9 +133,9 @@ fn exchange(k: usize) {
             black_box(&histogram).write_to(&mut buffer);
         }]),
     );
-    assert!(out[..length] == *text.as_bytes() && buffer == text.as_bytes());
+    assert!(out[..length] == *text.as_bytes() && buffer == there.as_bytes());
 
-    let (mut read_order, mut read_numbers) = (vec![0; 1 << k], [0; 24]);
+    let (mut read_order, mut read_numbers) = (vec![0; 1 << k], [0; 25]);
     let mut read = || read_numbers = ours::read(black_box(text.as_bytes()), &mut read_order, &mut scratch).1;
     let from_slice = || Histogram::from_slice(black_box(text.as_bytes()));
     let from_str = || Histogram::from_str(black_box(&text));
@@ -124,9 +155,9 @@ pub fn run() {
         ranking(k);
     }
     exchange(16);
-    searches(8, 8, 1_000_000);
-    searches(128, 2, 1_000_000);
-    searches(256, 2, 10_000_000);
-    searches(128, 3, 1_000_000);
-    searches(64, 4, 1_000_000);
+    let sizes = [(8, 8, 1_000_000), (128, 2, 1_000_000), (256, 2, 10_000_000), (128, 3, 1_000_000), (64, 4, 1_000_000)];
+    let evaluation = sizes.map(|(block_size, k, bytes)| evaluations(block_size, k, bytes));
+    let feeding = sizes.map(|(block_size, k, bytes)| searches(block_size, k, bytes));
+    let most = |ratios: [f64; 5]| ratios.into_iter().fold(0.0, f64::max);
+    println!("low first beside high first: feeding at most {:.2}, evaluation at most {:.2}; the bound is {LOW_FIRST}", most(feeding), most(evaluation));
 }

@@ -9,29 +9,33 @@ use std::ops::RangeInclusive;
 
 const BLOCKS: usize = 16_777_216;
 
-/// A block size, the kind of the bytes (`answers::recording`), the widths, and how many words are lent beyond those that capacity needs.
-const RECORDINGS: [(usize, usize, RangeInclusive<usize>, usize); 9] = [
-    (8, 0, 1..=8, 0),
-    (8, 1, 1..=3, 7),
-    (8, 3, 1..=8, 25),
-    (8, 4, 1..=3, 0),
-    (8, 2, 1..=8, 8),
-    (16, 5, 1..=3, 0),
-    (16, 3, 1..=2, 49),
-    (16, 2, 1..=3, 15),
-    (64, 5, 1..=2, 65),
+/// A block size, the kind of the bytes (`answers::recording`), the widths, how many words are lent beyond those that capacity needs, and whether the low bit
+/// comes first.
+const RECORDINGS: [(usize, usize, RangeInclusive<usize>, usize, bool); 9] = [
+    (8, 0, 1..=8, 0, false),
+    (8, 1, 1..=3, 7, false),
+    (8, 3, 1..=8, 25, false),
+    (8, 4, 1..=3, 0, false),
+    (8, 2, 1..=8, 8, false),
+    (16, 5, 1..=3, 0, false),
+    (16, 3, 1..=2, 49, true),
+    (16, 2, 1..=3, 15, false),
+    (64, 5, 1..=2, 65, false),
 ];
 
 pub fn run() {
     let mut run = Run::new();
-    for (number, (block_size, bytes, widths, more)) in RECORDINGS.into_iter().enumerate() {
+    for (number, (block_size, bytes, widths, more, low_first)) in RECORDINGS.into_iter().enumerate() {
         let draws = &mut Draws::new(number as u64);
         let held = recording(draws, bytes, BLOCKS * block_size / 8);
         for k in widths {
             let words = BLOCKS / 64 * block_size + more;
             let pieces = pieces(draws, &held, capacity_bytes(block_size, words));
-            println!("B {block_size}, bytes of kind {bytes}, k {k}: {words} words, {} pieces", pieces.len());
-            let case = Recording { block_size, words, pieces, stretch: 0..BLOCKS, k, bins: 1, order: 0, stores: [0, 1], stale: false };
+            let first = if low_first { ", low bit first" } else { "" };
+            println!("B {block_size}, bytes of kind {bytes}, k {k}: {words} words, {} pieces{first}", pieces.len());
+            let case = Recording {
+                block_size, words, pieces, stretch: 0..BLOCKS, k, bins: 1, order: 0, stores: [0, 1], stale: false, low_first, mark: None,
+            };
             run.compare("recordings", |searches| case.check(searches));
             if k == 2 {
                 let part = Recording { stretch: 1 + 13 * number % 63..BLOCKS - 1 - 29 * number % 63, ..case };
@@ -39,7 +43,8 @@ pub fn run() {
                 run.compare("recordings, a stretch", |searches| part.check(searches));
             }
         }
-        run.compare("checks and evaluations", |searches| judged(draws, block_size, held).check(searches));
+        let judged = Judged { low_first, ..judged(draws, block_size, held) };
+        run.compare("checks and evaluations", |searches| judged.check(searches));
     }
     run.close("capacity");
 }
@@ -72,5 +77,7 @@ fn judged(draws: &mut Draws, block_size: usize, mut bytes: Vec<u8>) -> Judged {
         order: (0..1 << width).rev().collect(),
         bytes,
         scratch: 1,
+        low_first: false,
+        mark: None,
     }
 }

@@ -16,9 +16,11 @@ pub trait Compared: Sized {
 
 pub fn kind(case: &Case) -> &'static str {
     match case {
+        Case::Recording(case) if case.low_first => "recordings, low first",
         Case::Recording(_) => "recordings",
         Case::Ranking(_) => "rankings",
         Case::Rank(_) => "ranks",
+        Case::Judged(case) if case.low_first => "checks and evaluations, low first",
         Case::Judged(_) => "checks and evaluations",
         Case::Split(_) => "splits",
         Case::Plan(_) => "sweep plans",

@@ -3,13 +3,14 @@
 
 use crate::case::{same, Checked};
 use crate::ours;
-use crate::recordings::numbers;
+use crate::recordings::{numbers, numbers_in};
 use answers::{
-    arguments, bottomup, compute_index, configurations, evaluate_histogram, from_bins, from_json, to_json, transform_data, validate, whole_blocks, Finding,
+    arguments, bottomup, compute_index, configurations, evaluate_histogram, from_bins, from_json, reversed, to_json, transform_data, validate, whole_blocks,
+    with_low_first, Finding,
 };
 use std::panic;
 
-const ROWS: [(&str, fn() -> Checked); 28] = [
+const ROWS: [(&str, fn() -> Checked); 33] = [
     ("pieces", pieces),
     ("row words", row_words),
     ("an unfinished block", unfinished_block),
@@ -22,6 +23,8 @@ const ROWS: [(&str, fn() -> Checked); 28] = [
     ("samplers", samplers),
     ("stretches", stretches),
     ("stretches that are none", other_stretches),
+    ("bit orders", bit_orders),
+    ("bit orders that are none", other_bit_orders),
     ("threads", threads),
     ("large ranks", large_ranks),
     ("ranks of no subset", ranks_of_no_subset),
@@ -31,6 +34,9 @@ const ROWS: [(&str, fn() -> Checked); 28] = [
     ("numbers of 2^32 and more", large_numbers),
     ("entries past the width", past_the_width),
     ("a refused split", refused_split),
+    ("texts: low_first is written", low_first_written),
+    ("texts: low_first is passed over", low_first_passed_over),
+    ("texts: other values of low_first", other_values_of_low_first),
     ("texts: other keys", other_keys),
     ("texts: an array for the object", array_for_object),
     ("texts: large block sizes", large_block_sizes_in_texts),
@@ -68,10 +74,15 @@ fn panics<T>(what: &str, call: impl FnOnce() -> T + panic::UnwindSafe) -> Checke
 }
 
 /// A sampler of just enough words for the bytes, and the words.
-fn sampled(block_size: usize, pieces: &[&[u8]]) -> ([u64; 3], Vec<u64>) {
+fn sampled(block_size: usize, pieces: &[&[u8]]) -> ([u64; 4], Vec<u64>) {
+    sampled_in(false, block_size, pieces)
+}
+
+/// The same in a bit order.
+fn sampled_in(low_first: bool, block_size: usize, pieces: &[&[u8]]) -> ([u64; 4], Vec<u64>) {
     let bytes: usize = pieces.iter().map(|piece| piece.len()).sum();
-    let (mut sampler, mut words) = ([0; 3], vec![0; block_size * bytes.div_ceil(8 * block_size).max(1)]);
-    assert_eq!(ours::start(block_size, &mut words, &mut sampler), 0);
+    let (mut sampler, mut words) = ([0; 4], vec![0; block_size * bytes.div_ceil(8 * block_size).max(1)]);
+    assert_eq!(ours::start(block_size, low_first, &mut words, &mut sampler), 0);
     for piece in pieces {
         assert_eq!(ours::feed(&mut sampler, &mut words, piece), 0);
     }
@@ -120,7 +131,7 @@ fn large_block_sizes() -> Checked {
     is("the reference's parts", whole_blocks(&raw, 4104, true).map(|parts| parts.1.len()), Ok(513))?;
     is("the reference's plan", configurations(4104, 1), vec![(8, 8), (4104, 2)])?;
     is("the reference's rank", compute_index(&[4103], 4104), 4103)?;
-    is("start", ours::start(4104, &mut [0; 5000], &mut [0; 3]), 1)?;
+    is("start", ours::start(4104, false, &mut [0; 5000], &mut [0; 4]), 1)?;
     is("check", ours::validate(&numbers(&found), &[0, 1], &mut [0; 2]), 1)?;
     is("evaluation", ours::evaluate(&numbers(&found), &[0, 1], &raw, &mut [0; 2]), (1, [0; 3]))?;
     is("split", ours::whole_blocks(&raw, 4104, true), (1, [0; 2]))?;
@@ -136,7 +147,8 @@ fn other_block_sizes() -> Checked {
     is("the reference's plan", configurations(0, 1000), configurations(8, 1000))?;
     for block_size in [0, 4, 12] {
         is("the reference's arguments", arguments(&["-b", &block_size.to_string()]).is_err(), true)?;
-        is("start", ours::start(block_size, &mut [0; 64], &mut [0; 3]), 1)?;
+        let mut sampler = [5; 4];
+        is("start", (ours::start(block_size, true, &mut [0; 64], &mut sampler), sampler), (1, [0; 4]))?;
         is("split", ours::whole_blocks(&raw, block_size, true).0, 1)?;
         is("plan", ours::configurations(block_size, 1000).0, 1)?;
     }
@@ -145,8 +157,8 @@ fn other_block_sizes() -> Checked {
 
 fn many_blocks() -> Checked {
     let bytes = vec![0x80; (1 << 24) + 1];
-    let (mut sampler, mut words) = ([0; 3], vec![0; 8 * ((1 << 18) + 1)]);
-    is("start", ours::start(8, &mut words, &mut sampler), 0)?;
+    let (mut sampler, mut words) = ([0; 4], vec![0; 8 * ((1 << 18) + 1)]);
+    is("start", ours::start(8, false, &mut words, &mut sampler), 0)?;
     is("feed", ours::feed(&mut sampler, &mut words, &bytes), 5)?;
     is("feed of a byte less", ours::feed(&mut sampler, &mut words, &bytes[1..]), 0)?;
     is("the reference's blocks", transform_data(&bytes, 8).num_of_blocks(), (1 << 24) + 1)?;
@@ -190,7 +202,7 @@ fn buffers() -> Checked {
     is("search", ours::direct(&sampler, &words, 0..2, 2, &mut bins, &mut [0; 4]).refusal, 7)?;
     is("bins", bins, [5; 3])?;
     is("check", check(&finding(&[0, 1, 2, 3], 1), &mut [0; 3]), 7)?;
-    is("a finding of 23 numbers", ours::validate(&numbers(&finding(&[0, 1, 2, 3], 1))[..23], &[0, 1, 2, 3], &mut [0; 4]), 25)
+    is("a finding of 24 numbers", ours::validate(&numbers(&finding(&[0, 1, 2, 3], 1))[..24], &[0, 1, 2, 3], &mut [0; 4]), 25)
 }
 
 fn samplers() -> Checked {
@@ -214,13 +226,47 @@ fn other_stretches() -> Checked {
     for stretch in [4..3, 0..8, 8..8] {
         let (mut bins, mut order) = ([5; 4], [5; 4]);
         let answer = ours::direct(&sampler, &words, stretch.clone(), 2, &mut bins, &mut order);
-        is("direct", (answer.refusal, answer.finding, bins, order), (18, [0; 24], [5; 4], [5; 4]))?;
+        is("direct", (answer.refusal, answer.finding, bins, order), (18, [0; 25], [5; 4], [5; 4]))?;
         let (mut lower, mut upper) = ([5; 16], [5; 16]);
         let answer = ours::layered(&sampler, &words, stretch, 2, [&mut lower, &mut upper], &mut bins, &mut order);
-        is("layered", (answer.refusal, answer.finding, bins, order), (18, [0; 24], [5; 4], [5; 4]))?;
+        is("layered", (answer.refusal, answer.finding, bins, order), (18, [0; 25], [5; 4], [5; 4]))?;
         is("stores", (lower, upper), ([5; 16], [5; 16]))?;
     }
     Ok(())
+}
+
+fn bit_orders() -> Checked {
+    let bytes = [0x01, 0x01, 0x01, 0x00];
+    let (sampler, words) = sampled_in(true, 8, &[&bytes]);
+    let ours = ours::direct(&sampler, &words, 0..4, 2, &mut [0; 4], &mut [0; 4]).finding;
+    is("the chosen bits", &ours[4..6], &[1, 2])?;
+    same("finding", ours, numbers_in(&bottomup(&reversed(&bytes), 8, 2, 1)?, true))?;
+    is("the reversed bytes", reversed(&bytes), vec![0x80, 0x80, 0x80, 0x00])?;
+    is("the reference's bits of the bytes as they are", &bottomup(&bytes, 8, 2, 1)?.bits[..], &[0, 1])
+}
+
+fn other_bit_orders() -> Checked {
+    let (mut sampler, mut words) = sampled(8, &[&[0, 255]]);
+    sampler[3] = 2;
+    let (lent, lent_words) = (sampler, words.clone());
+    is("feed", (ours::feed(&mut sampler, &mut words, &[255]), sampler, words == lent_words), (27, lent, true))?;
+    is("blocks", ours::blocks(&sampler), 0)?;
+    let (mut bins, mut order, mut lower, mut upper) = ([5; 4], [5; 4], [5; 16], [5; 16]);
+    let answers = [
+        ours::direct(&sampler, &words, 0..2, 2, &mut bins, &mut order),
+        ours::layered(&sampler, &words, 0..2, 2, [&mut lower, &mut upper], &mut bins, &mut order),
+    ];
+    for answer in answers {
+        is("search", (answer.refusal, answer.finding), (27, [ours::LENT; 25]))?;
+    }
+    is("buffers and stores", (bins, order, lower, upper), ([5; 4], [5; 4], [5; 16], [5; 16]))?;
+    let mut numbers = numbers(&finding(&[0, 1, 2, 3], 1));
+    numbers[24] = 2;
+    let (mut scratch, mut out) = ([5; 4], [5; 99]);
+    is("check", ours::validate(&numbers, &[0, 1, 2, 3], &mut scratch), 27)?;
+    is("evaluation", ours::evaluate(&numbers, &[0, 1, 2, 3], &[0], &mut scratch), (27, [ours::LENT; 3]))?;
+    is("writing", ours::write(&numbers, &[0, 1, 2, 3], &mut scratch, &mut out), (27, ours::LENT as usize))?;
+    is("scratch and output", (scratch, out), ([5; 4], [5; 99]))
 }
 
 fn threads() -> Checked {
@@ -312,7 +358,7 @@ fn past_the_width() -> Checked {
     let plain = numbers(&finding(&[0, 1, 2, 3], 1));
     for left in [1, 8, u32::MAX as u64, 1 << 32, u64::MAX] {
         let mut strewn = plain;
-        strewn[6..].fill(left);
+        strewn[6..24].fill(left);
         is("check", ours::validate(&strewn, &[0, 1, 2, 3], &mut [0; 4]), 0)?;
         let answer = |numbers: &[u64]| ours::evaluate(numbers, &[0, 1, 2, 3], &[0, 255], &mut [0; 4]);
         is("evaluation", answer(&strewn), answer(&plain))?;
@@ -328,7 +374,7 @@ fn refused_split() -> Checked {
 }
 
 /// What our reading answers, in an order and a scratch of four entries, and whether it left them as lent.
-fn read(text: &str) -> (u32, [u64; 24], bool) {
+fn read(text: &str) -> (u32, [u64; 25], bool) {
     let (mut order, mut scratch) = ([5; 4], [5; 4]);
     let (refusal, finding) = ours::read(text.as_bytes(), &mut order, &mut scratch);
     (refusal, finding, (order, scratch) == ([5; 4], [5; 4]))
@@ -338,7 +384,7 @@ fn read(text: &str) -> (u32, [u64; 24], bool) {
 fn there_alone(text: &str, finding: &Finding) -> Checked {
     is("the reference's reading", from_json(text.as_bytes()).as_ref(), Ok(finding))?;
     is("the reference's check", validate(finding), Ok(()))?;
-    is("reading", read(text), (16, [0; 24], true))
+    is("reading", read(text), (16, [0; 25], true))
 }
 
 /// A finding of one bit of a block of 8, its text, and the text with more behind its last number.
@@ -348,6 +394,42 @@ fn one_bit(block_size: usize) -> Finding {
 
 fn with(more: &str) -> String {
     to_json(&one_bit(8)).replace(":8}", &format!(":8{more}}}"))
+}
+
+/// Our text of that finding in a bit order.
+fn written(low_first: bool) -> String {
+    let mut out = [5; 99];
+    let (refusal, length) = ours::write(&numbers_in(&one_bit(8), low_first), &[1, 0], &mut [0; 2], &mut out);
+    assert_eq!(refusal, 0);
+    String::from_utf8(out[..length].to_vec()).unwrap()
+}
+
+fn low_first_written() -> Checked {
+    is("the reference's text", to_json(&one_bit(8)), r#"{"bits":[3],"sorted_indices":[1,0],"best_division":1,"block_size":8}"#.into())?;
+    for low_first in [false, true] {
+        is("text", written(low_first), with_low_first(&to_json(&one_bit(8)), low_first))?;
+    }
+    is("reading of the reference's text", read(&to_json(&one_bit(8))), (0, numbers(&one_bit(8)), false))
+}
+
+fn low_first_passed_over() -> Checked {
+    let text = written(true);
+    let there = from_json(text.as_bytes())?;
+    is("the reference's reading", (&there, validate(&there)), (&one_bit(8), Ok(())))?;
+    is("reading", read(&text), (0, numbers_in(&one_bit(8), true), false))?;
+    // Bit 3 of the byte 08 is set where the low bit comes first; where the high bit does it is that of the byte 10.
+    let mut counts = [0; 2];
+    is("evaluation", ours::evaluate(&numbers_in(&one_bit(8), true), &[1, 0], &[0x08], &mut counts).0, 0)?;
+    is("counts", counts, [0, 1])?;
+    is("the reference's counts", evaluate_histogram(&there, &[0x08]).bins, vec![1, 0])?;
+    is("the reference's counts of the reversed byte", evaluate_histogram(&there, &reversed(&[0x08])).bins, vec![0, 1])
+}
+
+fn other_values_of_low_first() -> Checked {
+    for value in ["1", "null", "\"true\"", "[true]", "true,\"low_first\":true"] {
+        there_alone(&with(&format!(",\"low_first\":{value}")), &one_bit(8))?;
+    }
+    Ok(())
 }
 
 fn other_keys() -> Checked {
@@ -363,7 +445,7 @@ fn array_for_object() -> Checked {
 fn large_block_sizes_in_texts() -> Checked {
     let text = to_json(&one_bit(4104));
     is("the reference's reading", from_json(text.as_bytes()).and_then(|found| validate(&found)), Ok(()))?;
-    is("reading", read(&text), (1, [0; 24], false))?;
+    is("reading", read(&text), (1, [0; 25], false))?;
     there_alone(&to_json(&one_bit(1 << 32)), &one_bit(1 << 32))
 }
 
@@ -380,22 +462,22 @@ fn no_such_object() -> Checked {
     let [fraction, sign, zero] = [(":8", ":8.0"), (":8", ":-0"), (":1,", ":01,")].map(|(number, other)| with("").replace(number, other));
     for text in [fraction, sign, zero, with(","), with(",\"block_size\":8"), with(",\"z_score\":null")] {
         is("the reference's reading", from_json(text.as_bytes()).is_err(), true)?;
-        is("reading", read(&text), (16, [0; 24], true))?;
+        is("reading", read(&text), (16, [0; 25], true))?;
     }
     // Above 2^32 - 1: read there, and refused by the check.
     let bits = with("").replace("[3]", "[4294967296]");
     is("the reference's check", validate(&from_json(bits.as_bytes())?).is_err_and(|words| words.contains("outside a")), true)?;
-    is("reading", read(&bits), (16, [0; 24], true))
+    is("reading", read(&bits), (16, [0; 25], true))
 }
 
 fn rooms_of_texts() -> Checked {
     let (text, mut order, mut scratch) = (with(""), [5; 1], [5; 2]);
-    is("reading", ours::read(text.as_bytes(), &mut order, &mut scratch), (17, [0; 24]))?;
+    is("reading", ours::read(text.as_bytes(), &mut order, &mut scratch), (17, [0; 25]))?;
     is("order and scratch", (order, scratch), ([5; 1], [5; 2]))?;
-    is("the text's length", text.len(), 68)?;
-    let mut out = [5; 67];
+    is("our text's length", written(false).len(), 86)?;
+    let mut out = [5; 85];
     is("writing", ours::write(&numbers(&one_bit(8)), &[1, 0], &mut scratch, &mut out), (17, 0))?;
-    is("output and scratch", (out, scratch), ([5; 67], [0; 2]))
+    is("output and scratch", (out, scratch), ([5; 85], [0; 2]))
 }
 
 fn powers_of_one_half() -> Checked {

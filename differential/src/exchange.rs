@@ -2,10 +2,11 @@
 
 use crate::account::{Account, Run};
 use crate::case::{fewer, same, Checked};
+use crate::judging::numbers_of;
 use crate::ours;
-use crate::recordings::numbers;
-use answers::run::{sound, Exchange, Judged};
-use answers::{from_json, keys, to_json, to_json_in_report, to_json_pretty, validate, Draws, Finding, Rules};
+use crate::recordings::numbers_in;
+use answers::run::{bit_orders, sound, Exchange, Judged};
+use answers::{from_json, keys, low_first, to_json, to_json_in_report, to_json_pretty, validate, with_low_first, Draws, Finding, Rules};
 
 /// What stands in every entry of a lent buffer, as in tools/exchange.py.
 const LENT: u8 = 99;
@@ -16,15 +17,17 @@ const WIDE: [(usize, usize); 6] = [(9, 2), (10, 2), (11, 2), (12, 2), (16, 3), (
 pub fn run(seed: u64, cases: u64) {
     println!("seed {seed}, {cases} cases");
     let (mut run, mut rules) = (Run::new(), Rules::start());
-    let draws = &mut Draws::new(seed);
+    let (draws, orders) = (&mut Draws::new(seed), &mut bit_orders(seed));
     for (width, findings) in WIDE {
         for _ in 0..findings {
             let finding = sound(draws, width);
-            run.compare("findings, both ways", |_| both_ways(&finding));
+            let low = orders.below(2) == 1;
+            run.compare("findings, both ways", |_| both_ways(&finding, low));
         }
     }
     for width in 1..=20 {
-        run.compare("findings of the longest texts, both ways", |_| both_ways(&longest(width)));
+        // false is longer than true.
+        run.compare("findings of the longest texts, both ways", |_| both_ways(&longest(width), false));
     }
     run.compare("widths without a text", |_| same("rooms", [0, 21, 64, 1 << 32, usize::MAX].map(ours::longest_text), [0; 5]));
     for number in 0..cases {
@@ -41,7 +44,7 @@ pub fn run(seed: u64, cases: u64) {
             run.fail();
         }
         let kind = match case {
-            Exchange::Sound(_) => "findings, both ways",
+            Exchange::Sound { .. } => "findings, both ways",
             Exchange::Text { .. } => "texts",
             Exchange::Written { .. } => "findings, sound or not, written",
         };
@@ -52,7 +55,7 @@ pub fn run(seed: u64, cases: u64) {
 
 fn check(case: &Exchange, rules: &mut Rules, texts: &mut Account) -> Checked {
     match case {
-        Exchange::Sound(finding) => both_ways(finding),
+        Exchange::Sound { finding, low_first } => both_ways(finding, *low_first),
         Exchange::Text { text, order, scratch } => read(text, *order, *scratch, rules, texts),
         Exchange::Written { judged, z, past, out } => written(judged, *z, *past, *out, rules),
     }
@@ -91,24 +94,27 @@ fn longest(width: usize) -> Finding {
     Finding { block_size: 4096, bits: (4096 - width..4096).collect(), order: (0..bins).rev().collect(), division: bins - 1, z: 9.0 }
 }
 
-/// A sound finding: our text is the reference's to the last byte, the reference reads it as the same finding, and we read what it writes on one line, on
-/// several and in its report.
-fn both_ways(finding: &Finding) -> Checked {
+/// A sound finding in a bit order: our text is the reference's to the last byte, but for the bit order before the last brace; the reference reads it as the
+/// same finding and serde the bit order; and we read our own text and what the reference writes on one line, on several and in its report, where the high bit
+/// comes first.
+fn both_ways(finding: &Finding, low: bool) -> Checked {
     let (order, bins) = (narrow(&finding.order), finding.order.len());
     let room = ours::longest_text(finding.bits.len());
     let (mut scratch, mut out) = (vec![LENT as u32; bins], vec![LENT; room + 3]);
-    let (refusal, length) = ours::write(&numbers(finding), &order, &mut scratch, &mut out);
+    let (refusal, length) = ours::write(&numbers_in(finding, low), &order, &mut scratch, &mut out);
     same("writing", (refusal, length <= room), (0, true))?;
     let text = to_json(finding);
-    same("text", String::from_utf8_lossy(&out[..length]), text.as_str().into())?;
+    let ours = with_low_first(&text, low);
+    same("text", String::from_utf8_lossy(&out[..length]), ours.as_str().into())?;
     same("output past the text", out[length..].iter().all(|&byte| byte == LENT), true)?;
     let there = from_json(&out[..length])?;
     same("our text there", (&there, validate(&there)), (&plain(finding), Ok(())))?;
-    for text in [text, to_json_pretty(finding), to_json_in_report(finding)] {
+    same("the bit order of our text", low_first(&out[..length]), Ok(low))?;
+    for (text, low) in [(ours, low), (text, false), (to_json_pretty(finding), false), (to_json_in_report(finding), false)] {
         let half = text.len() / 2;
         let (mut order, mut scratch) = (vec![LENT as u32; half], vec![LENT as u32; half]);
         let (refusal, read) = ours::read(text.as_bytes(), &mut order, &mut scratch);
-        same("reading", (refusal, read), (0, numbers(&plain(finding))))?;
+        same("reading", (refusal, read), (0, numbers_in(&plain(finding), low)))?;
         same("order", order[..bins].to_vec(), narrow(&finding.order))?;
         same("order past the indices", order[bins..].iter().all(|&entry| entry == LENT as u32), true)?;
         let (cleared, rest) = scratch.split_at(bins);
@@ -127,7 +133,7 @@ fn read(text: &[u8], order: usize, scratch: usize, rules: &mut Rules, texts: &mu
     let there = from_json(text).and_then(|found| validate(&found).map(|()| found));
     let class = match (refusal, there) {
         (0, Ok(found)) => {
-            same("finding", finding, numbers(&plain(&found)))?;
+            same("finding", finding, numbers_in(&plain(&found), low_first(text)?))?;
             same("order", &order[..found.order.len()], &narrow(&found.order)[..])?;
             "texts that both take"
         }
@@ -142,7 +148,7 @@ fn read(text: &[u8], order: usize, scratch: usize, rules: &mut Rules, texts: &mu
 
 /// Why the reference takes a text that we refuse: a class of docs/DIFFERENCES.md.
 fn there_alone(text: &[u8], refusal: u32, found: &Finding) -> Option<&'static str> {
-    let known = ["bits", "sorted_indices", "best_division", "block_size", "z_score"];
+    let known = ["bits", "sorted_indices", "best_division", "block_size", "z_score", "low_first"];
     match refusal {
         1 if found.block_size > 4096 => Some("texts taken there alone: a block size above 4,096"),
         7 | 17 => Some("texts taken there alone: buffers too short here"),
@@ -150,6 +156,7 @@ fn there_alone(text: &[u8], refusal: u32, found: &Finding) -> Option<&'static st
         16 if found.block_size > u32::MAX as usize => Some("texts taken there alone: a block size above 2^32 - 1"),
         16 => match keys(text) {
             Some(keys) if keys.iter().any(|key| !known.contains(&key.as_str())) => Some("texts taken there alone: another key"),
+            Some(_) if low_first(text).is_err() => Some("texts taken there alone: a low_first that is neither true nor false, or stands twice"),
             Some(_) if text.contains(&b'\\') => Some("texts taken there alone: a key with an escape"),
             _ => None,
         },
@@ -157,13 +164,9 @@ fn there_alone(text: &[u8], refusal: u32, found: &Finding) -> Option<&'static st
     }
 }
 
-/// A finding that is sound or not, by the rules.
+/// A finding that is sound or not, by the rules. Those know either bit order; one that is none is refused with 27, and nothing is written.
 fn written(judged: &Judged, z: u64, past: u32, out: isize, rules: &mut Rules) -> Checked {
-    let mut finding = [past as u64; 24];
-    finding[..4].copy_from_slice(&[judged.block_size as u64, judged.width as u64, judged.division as u64, z]);
-    for (number, &bit) in finding[4..].iter_mut().zip(&judged.bits) {
-        *number = bit as u64;
-    }
+    let finding = numbers_of(judged, z, past as u64);
     let text = to_json(&Finding {
         block_size: judged.block_size,
         bits: finding[4..][..judged.width.min(20)].iter().map(|&bit| bit as usize).collect(),
@@ -171,8 +174,12 @@ fn written(judged: &Judged, z: u64, past: u32, out: isize, rules: &mut Rules) ->
         division: judged.division as usize,
         z: 0.0,
     });
+    let text = with_low_first(&text, judged.low_first);
     let room = (text.len() as isize + out).max(0) as usize;
-    let expected = rules.write(&finding, &judged.order, judged.lent(), room);
+    let expected = match judged.mark {
+        Some(_) => [vec![27, ours::LENT], vec![LENT as u64; room], vec![LENT as u64; judged.lent()]],
+        None => rules.write(&finding, &judged.order, judged.lent(), room),
+    };
     let (mut scratch, mut output) = (vec![LENT as u32; judged.lent()], vec![LENT; room]);
     let (refusal, length) = ours::write(&finding, &judged.order, &mut scratch, &mut output);
     let answer = [vec![refusal as u64, length as u64], wide(&output), wide(&scratch)];

@@ -4,18 +4,14 @@ use crate::account::Account;
 use crate::case::{fewer, same, Checked, Compared};
 use crate::ours;
 use answers::run::{Judged, Plan, Split};
-use answers::{configurations, evaluate_histogram, valid, validate, whole_blocks, Finding};
+use answers::{configurations, evaluate_histogram, high_first, valid, validate, whole_blocks, Finding};
 
 const LENT: u32 = 0xABCD;
 
 impl Compared for Judged {
     fn check(&self, _: &mut Account) -> Checked {
         let finding = finding_of(self);
-        let mut numbers = [0; 24];
-        numbers[..4].copy_from_slice(&[self.block_size as u64, self.width as u64, self.division as u64, u64::MAX]);
-        for (number, &bit) in numbers[4..].iter_mut().zip(&self.bits) {
-            *number = bit as u64;
-        }
+        let numbers = numbers_of(self, u64::MAX, 0);
         let m = 1_usize << self.width.min(20);
         let lent = vec![LENT; self.lent()];
         let expected = refusal(self, &finding, lent.len());
@@ -32,10 +28,12 @@ impl Compared for Judged {
         let (refusal, evaluated) = ours::evaluate(&numbers, &self.order, &self.bytes, &mut scratch);
         same("evaluation's refusal", refusal, expected)?;
         if expected != 0 {
-            same("evaluation beside a refusal", evaluated, [0; 3])?;
+            // Beside 27 nothing is written.
+            same("evaluation beside a refusal", evaluated, [if expected == 27 { ours::LENT } else { 0 }; 3])?;
             return same("scratch after a refused evaluation", &scratch, &cleared);
         }
-        let answer = evaluate_histogram(&finding, &self.bytes);
+        // The reference knows the high bit first alone.
+        let answer = evaluate_histogram(&finding, &high_first(&self.bytes, self.low_first));
         let score = if answer.z.is_nan() { [0, 0] } else { [1, answer.z.to_bits()] };
         same("evaluation", evaluated, [answer.positive as u64, score[0], score[1]])?;
         let mut counted = lent;
@@ -46,8 +44,23 @@ impl Compared for Judged {
     }
 
     fn smaller(&self) -> Vec<Judged> {
-        fewer(&self.bytes, true).into_iter().map(|bytes| Judged { bytes, ..self.clone() }).collect()
+        let mut cases: Vec<Judged> = fewer(&self.bytes, true).into_iter().map(|bytes| Judged { bytes, ..self.clone() }).collect();
+        if self.low_first {
+            cases.push(Judged { low_first: false, ..self.clone() });
+        }
+        cases
     }
+}
+
+/// A finding's record, with its z and what stands in the bit entries past those given.
+pub fn numbers_of(case: &Judged, z: u64, past: u64) -> [u64; 25] {
+    let mut numbers = [past; 25];
+    numbers[..4].copy_from_slice(&[case.block_size as u64, case.width as u64, case.division as u64, z]);
+    for (number, &bit) in numbers[4..24].iter_mut().zip(&case.bits) {
+        *number = bit as u64;
+    }
+    numbers[24] = case.bit_order();
+    numbers
 }
 
 /// The bits that count, of which entries past those given are 0.
@@ -65,8 +78,11 @@ fn finding_of(case: &Judged) -> Finding {
     }
 }
 
-/// The check's refusal by the reference's words. A scratch that is too short comes before the order, after its length.
+/// The check's refusal by the reference's words. A scratch that is too short comes before the order, after its length; a bit order that is none before all.
 fn refusal(case: &Judged, finding: &Finding, scratch: usize) -> u32 {
+    if case.mark.is_some() {
+        return 27;
+    }
     if !valid(case.block_size) {
         return 1;
     }

@@ -4,7 +4,7 @@ use crate::account::Account;
 use crate::case::{fewer, same, Checked, Compared};
 use crate::ours::{self, Searched};
 use answers::run::Recording;
-use answers::{bottomup, capacity_bytes, choose, evaluate_histogram, transform_data, valid, Finding};
+use answers::{bottomup, capacity_bytes, choose, evaluate_histogram, high_first, reversed, transform_data, valid, Finding};
 use std::ops::Range;
 
 pub const LENT: u32 = 0xABCD;
@@ -52,6 +52,12 @@ impl Compared for Recording {
         if self.k > 1 {
             cases.push(Recording { k: self.k - 1, ..self.clone() });
         }
+        if self.low_first {
+            cases.push(Recording { low_first: false, ..self.clone() });
+        }
+        if self.mark.is_some() {
+            cases.push(Recording { mark: None, ..self.clone() });
+        }
         cases
     }
 }
@@ -78,38 +84,81 @@ fn keep_within(case: &mut Recording) {
     case.stretch = case.stretch.start.min(end)..end;
 }
 
-/// Feeds and searches a recording on both sides; a layered search that works more than this is left out.
+/// A sampler with its words.
+struct Sampled {
+    sampler: [u64; 4],
+    words: Vec<u64>,
+}
+
+/// Feeds and searches a recording on both sides; a layered search that works more than this is left out. The reference knows the high bit first alone: where
+/// the low bit comes first it is given the bytes with their bits reversed, and so are our own calls, with the high bit first, a second time.
 pub fn compare(case: &Recording, work: usize, searches: &mut Account) -> Checked {
-    let mut words = vec![u64::MAX; case.words];
-    let mut sampler = [5; 3];
-    let refusal = ours::start(case.block_size, &mut words, &mut sampler);
     if !valid(case.block_size) {
-        same("start's refusal", refusal, 1)?;
-        same("sampler beside a refusal", sampler, [0; 3])?;
-        return same("words as lent", words, vec![u64::MAX; case.words]);
+        return refused_start(case);
     }
-    same("start's refusal", refusal, 0)?;
+    let (mut fed, held) = feed(case, &case.pieces, case.low_first)?;
+    let held = high_first(&held, case.low_first);
+    let mut other = None;
+    if case.low_first {
+        let pieces: Vec<Vec<u8>> = case.pieces.iter().map(|piece| reversed(piece)).collect();
+        let (high, held_there) = feed(case, &pieces, false)?;
+        same("bytes held, reversed", held_there == *held, true)?;
+        same("words, low first, and high first of the reversed bytes", high.words == fed.words, true)?;
+        other = Some(high);
+    }
+    spoil(case, &mut fed)?;
+    if let Some(other) = &mut other {
+        spoil(case, other)?;
+    }
+    check_words(case, &fed.words, &held)?;
+    let size = case.block_size / 8;
+    let blocks = if case.mark.is_some() { 0 } else { fed.sampler[2] as usize / size };
+    same("the sampler's blocks", ours::blocks(&fed.sampler), blocks)?;
+    // The reference searches a recording of the stretch's blocks alone; where the stretch is refused it searches nothing.
+    let blocks = if case.within() { &held[case.stretch.start * size..case.stretch.end * size] } else { &[] };
+    check_searches(case, &fed, other.as_ref(), blocks, work, searches)
+}
+
+fn refused_start(case: &Recording) -> Checked {
+    let (mut words, mut sampler) = (vec![u64::MAX; case.words], [5; 4]);
+    same("start's refusal", ours::start(case.block_size, case.low_first, &mut words, &mut sampler), 1)?;
+    same("sampler beside a refusal", sampler, [0; 4])?;
+    same("words as lent", words, vec![u64::MAX; case.words])
+}
+
+/// A start and the feeds of these pieces, each refusal and sampler as it has to be; and the bytes held.
+fn feed(case: &Recording, pieces: &[Vec<u8>], low_first: bool) -> Result<(Sampled, Vec<u8>), String> {
+    let (mut words, mut sampler) = (vec![u64::MAX; case.words], [5; 4]);
+    same("start's refusal", ours::start(case.block_size, low_first, &mut words, &mut sampler), 0)?;
+    same("sampler after the start", sampler, [case.block_size as u64, case.words as u64, 0, low_first as u64])?;
     let mut held = Vec::new();
-    for piece in &case.pieces {
+    for piece in pieces {
         let fits = held.len() + piece.len() <= capacity_bytes(case.block_size, case.words);
         same("feed's refusal", ours::feed(&mut sampler, &mut words, piece), if fits { 0 } else { 5 })?;
         if fits {
             held.extend(piece);
         }
-        same("sampler", sampler, [case.block_size as u64, case.words as u64, held.len() as u64])?;
+        same("sampler", sampler, [case.block_size as u64, case.words as u64, held.len() as u64, low_first as u64])?;
     }
+    Ok((Sampled { sampler, words }, held))
+}
+
+/// A sampler that says more than capacity, or has no bit order: a feed is refused. That it leaves the words as they were shows where these are compared.
+fn spoil(case: &Recording, fed: &mut Sampled) -> Checked {
+    let Sampled { sampler, words } = fed;
     if case.stale {
         sampler[2] = capacity_bytes(case.block_size, case.words) as u64 + 1;
-        let lent = sampler;
-        same("feed with a sampler past capacity", ours::feed(&mut sampler, &mut words, &[0xFF]), 4)?;
-        same("sampler past capacity", sampler, lent)?;
+        let lent = *sampler;
+        same("feed with a sampler past capacity", ours::feed(sampler, words, &[0xFF]), 4)?;
+        same("sampler past capacity", *sampler, lent)?;
     }
-    check_words(case, &words, &held)?;
-    let size = case.block_size / 8;
-    same("the sampler's blocks", ours::blocks(&sampler), sampler[2] as usize / size)?;
-    // The reference searches a recording of the stretch's blocks alone; where the stretch is refused it searches nothing.
-    let blocks = if case.within() { &held[case.stretch.start * size..case.stretch.end * size] } else { &[] };
-    check_searches(case, &sampler, &words, blocks, work, searches)
+    if let Some(mark) = case.mark {
+        sampler[3] = mark;
+        let lent = *sampler;
+        same("feed with a sampler without a bit order", ours::feed(sampler, words, &[0xFF]), 27)?;
+        same("sampler without a bit order", *sampler, lent)?;
+    }
+    Ok(())
 }
 
 /// All words: the reference's rows, to which an unfinished block adds its bits, and 0 everywhere else.
@@ -127,13 +176,48 @@ fn check_words(case: &Recording, words: &[u64], held: &[u8]) -> Checked {
     same("the words past the rows", words[case.block_size * stride..].iter().all(|&word| word == 0), true)
 }
 
-fn check_searches(case: &Recording, sampler: &[u64], words: &[u64], blocks: &[u8], work: usize, searches: &mut Account) -> Checked {
-    let m = 1_isize << case.k.min(20);
-    let mut bins = vec![LENT; (m + case.bins) as usize];
-    let mut order = vec![LENT; (m + case.order) as usize];
-    let direct = ours::direct(sampler, words, case.stretch.clone(), case.k, &mut bins, &mut order);
-    check_search(case, "direct", 1, refusal(case, false), blocks, &direct, &bins, &order)?;
-    searches.add(entry("direct", direct.refusal), true);
+/// What a search answers, and the buffers after it.
+#[derive(Clone, Debug, PartialEq)]
+struct Answer {
+    searched: Searched,
+    bins: Vec<u32>,
+    order: Vec<u32>,
+}
+
+impl Answer {
+    fn by(case: &Recording, search: impl FnOnce(&mut [u32], &mut [u32]) -> Searched) -> Answer {
+        let m = 1_isize << case.k.min(20);
+        let (mut bins, mut order) = (vec![LENT; (m + case.bins) as usize], vec![LENT; (m + case.order) as usize]);
+        let searched = search(&mut bins, &mut order);
+        Answer { searched, bins, order }
+    }
+
+    /// The same with the high bit first, where something was found.
+    fn high_first(mut self) -> Answer {
+        if self.searched.refusal == 0 {
+            self.searched.finding[24] = 0;
+        }
+        self
+    }
+}
+
+fn direct(case: &Recording, fed: &Sampled) -> Answer {
+    Answer::by(case, |bins, order| ours::direct(&fed.sampler, &fed.words, case.stretch.clone(), case.k, bins, order))
+}
+
+fn layered(case: &Recording, fed: &Sampled, stores: &mut [Vec<u32>; 2]) -> Answer {
+    let [lower, upper] = stores;
+    Answer::by(case, |bins, order| ours::layered(&fed.sampler, &fed.words, case.stretch.clone(), case.k, [lower, upper], bins, order))
+}
+
+/// `other` is the same recording with the high bit first and its bytes reversed, where the low bit comes first.
+fn check_searches(case: &Recording, fed: &Sampled, other: Option<&Sampled>, blocks: &[u8], work: usize, searches: &mut Account) -> Checked {
+    let found = direct(case, fed);
+    check_search(case, "direct", 1, refusal(case, false), blocks, &found)?;
+    if let Some(other) = other {
+        same("direct, low first, and high first of the reversed bytes", &found.clone().high_first(), &direct(case, other))?;
+    }
+    searches.add(entry("direct", found.searched.refusal), true);
 
     let expected = refusal(case, true);
     let size = if case.searchable() { store_size(case.block_size, case.k) } else { None };
@@ -144,19 +228,17 @@ fn check_searches(case: &Recording, sampler: &[u64], words: &[u64], blocks: &[u8
     // Without a size the search is refused whatever the stores.
     let size = size.unwrap_or(2);
     let mut stores = case.stores.map(|more| vec![LENT; (size as isize + more) as usize]);
-    let mut layered_bins = vec![LENT; bins.len()];
-    let mut layered_order = vec![LENT; order.len()];
-    let [lower, upper] = &mut stores;
-    let layered = ours::layered(sampler, words, case.stretch.clone(), case.k, [lower, upper], &mut layered_bins, &mut layered_order);
-    check_search(case, "layered", 0, expected, blocks, &layered, &layered_bins, &layered_order)?;
+    let by_layers = layered(case, fed, &mut stores);
+    check_search(case, "layered", 0, expected, blocks, &by_layers)?;
     for store in &stores {
-        let free = if layered.refusal == 0 { size } else { 0 };
+        let free = if by_layers.searched.refusal == 0 { size } else { 0 };
         same("the rest of a store", &store[free..], &vec![LENT; store.len() - free][..])?;
     }
-    if direct.refusal == 0 && layered.refusal == 0 {
-        same("both searches' findings", &layered, &direct)?;
-        same("both searches' counts", &layered_bins, &bins)?;
-        same("both searches' orders", &layered_order, &order)?;
+    if found.searched.refusal == 0 && by_layers.searched.refusal == 0 {
+        same("both searches' findings, counts and orders", &by_layers, &found)?;
+    }
+    if let Some(other) = other {
+        same("layered, low first, and high first of the reversed bytes", &by_layers.high_first(), &layered(case, other, &mut stores))?;
     }
     searches.add(entry("layered", expected), true);
     Ok(())
@@ -174,7 +256,9 @@ fn entry(name: &str, refusal: u32) -> &'static str {
 
 /// The first refusal that applies to a search.
 fn refusal(case: &Recording, layered: bool) -> u32 {
-    if case.stale {
+    if case.mark.is_some() {
+        27
+    } else if case.stale {
         4
     } else if !case.within() {
         18
@@ -191,33 +275,41 @@ fn refusal(case: &Recording, layered: bool) -> u32 {
     }
 }
 
-fn check_search(
-    case: &Recording, name: &str, threads: usize, refusal: u32, blocks: &[u8], ours: &Searched, bins: &[u32], order: &[u32],
-) -> Checked {
-    same(&format!("{name}: refusal"), ours.refusal, refusal)?;
+/// `blocks` are those of the stretch with the high bit first.
+fn check_search(case: &Recording, name: &str, threads: usize, refusal: u32, blocks: &[u8], answer: &Answer) -> Checked {
+    let Answer { searched, bins, order } = answer;
+    same(&format!("{name}: refusal"), searched.refusal, refusal)?;
     if refusal != 0 {
-        same(&format!("{name}: finding beside a refusal"), ours.finding, [0; 24])?;
+        // Beside 27 nothing is written.
+        let beside = if refusal == 27 { ours::LENT } else { 0 };
+        same(&format!("{name}: finding beside a refusal"), searched.finding, [beside; 25])?;
         return same(&format!("{name}: buffers as lent"), bins.iter().chain(order).all(|&entry| entry == LENT), true);
     }
     let found = bottomup(blocks, case.block_size, case.k, threads)?;
-    same(&format!("{name}: finding"), ours.finding, numbers(&found))?;
+    same(&format!("{name}: finding"), searched.finding, numbers_in(&found, case.low_first))?;
     let counts = evaluate_histogram(&found, blocks).bins;
     same(&format!("{name}: counts"), bins.to_vec(), entries(&counts, bins.len()))?;
     same(&format!("{name}: order"), order.to_vec(), entries(&found.order, order.len()))
 }
 
-/// A finding of the reference as our 24 numbers.
-pub fn numbers(found: &Finding) -> [u64; 24] {
-    let mut numbers = [0; 24];
+/// A finding of the reference as our 25 numbers, the high bit first.
+pub fn numbers(found: &Finding) -> [u64; 25] {
+    numbers_in(found, false)
+}
+
+/// The same in a bit order.
+pub fn numbers_in(found: &Finding, low_first: bool) -> [u64; 25] {
+    let mut numbers = [0; 25];
     numbers[..4].copy_from_slice(&[
         found.block_size as u64,
         found.bits.len() as u64,
         found.division as u64,
         found.z.to_bits(),
     ]);
-    for (number, &bit) in numbers[4..].iter_mut().zip(&found.bits) {
+    for (number, &bit) in numbers[4..24].iter_mut().zip(&found.bits) {
         *number = bit as u64;
     }
+    numbers[24] = low_first as u64;
     numbers
 }
 

@@ -3,7 +3,7 @@
 
 use crate::recordings::{numbers, store_size};
 use answers::run::sound;
-use answers::{to_json, Draws};
+use answers::{to_json, with_low_first, Draws};
 use jimrawel::calls;
 use std::ffi::c_void;
 use std::sync::atomic::{AtomicBool, AtomicUsize, Ordering};
@@ -18,6 +18,9 @@ const PAINT: u64 = 0xA5C3_96E1_5A3C_691E;
 
 /// How long a call may run before the stack is looked at: one that takes hours has been at its deepest by then, with its first set of bits.
 const SECONDS: u64 = 20;
+
+/// Whether the low bit comes first, and how a row says so.
+const BIT_ORDERS: [(bool, &str); 2] = [(false, ""), (true, ", low first")];
 
 /// A call that is measured: where its thread's own frame lies, and whether it has returned.
 struct Measured {
@@ -102,34 +105,36 @@ pub fn run() {
 
 /// A sampler of drawn bytes and its words.
 fn fed(block_size: usize, blocks: usize) -> (Vec<u64>, Vec<u64>) {
-    let (mut sampler, mut words) = (vec![0; 3], vec![0; block_size * blocks.div_ceil(64)]);
-    assert_eq!(calls::start(block_size, &mut words, &mut sampler), 0);
+    let (mut sampler, mut words) = (vec![0; 4], vec![0; block_size * blocks.div_ceil(64)]);
+    assert_eq!(calls::start(block_size, false, &mut words, &mut sampler), 0);
     assert_eq!(calls::feed(&mut sampler, &mut words, &Draws::new(3).bytes(blocks * block_size / 8)), 0);
     (sampler, words)
 }
 
 fn feeding(table: &mut Table) {
     for block_size in [8, 4096] {
-        let (mut sampler, mut words) = (vec![0; 3], vec![1; 1 << 20]);
+        let (mut sampler, mut words) = (vec![0; 4], vec![1; 1 << 20]);
         table.row("jimrawel_start", &format!("B {block_size}"), move || {
-            assert_eq!(calls::start(black_box(block_size), &mut words, &mut sampler), 0);
+            assert_eq!(calls::start(black_box(block_size), black_box(true), &mut words, &mut sampler), 0);
         });
         let (sampler, _) = fed(block_size, 65);
         table.row("jimrawel_blocks", &format!("B {block_size}"), move || assert_eq!(calls::blocks(black_box(&sampler)), 65));
-        let (mut sampler, mut words) = (vec![0; 3], vec![1; 1 << 20]);
-        let pieces = [1, 0, 777, 100_000].map(|bytes| Draws::new(3).bytes(bytes));
-        assert_eq!(calls::start(block_size, &mut words, &mut sampler), 0);
-        table.row("jimrawel_feed", &format!("B {block_size}"), move || {
-            for piece in &pieces {
-                assert_eq!(calls::feed(&mut sampler, &mut words, black_box(piece)), 0);
-            }
-        });
+        for (low_first, name) in BIT_ORDERS {
+            let (mut sampler, mut words) = (vec![0; 4], vec![1; 1 << 20]);
+            let pieces = [1, 0, 777, 100_000].map(|bytes| Draws::new(3).bytes(bytes));
+            assert_eq!(calls::start(block_size, low_first, &mut words, &mut sampler), 0);
+            table.row("jimrawel_feed", &format!("B {block_size}{name}"), move || {
+                for piece in &pieces {
+                    assert_eq!(calls::feed(&mut sampler, &mut words, black_box(piece)), 0);
+                }
+            });
+        }
     }
 }
 
 fn direct(table: &mut Table, block_size: usize, k: usize, blocks: usize) {
     let (sampler, words) = fed(block_size, blocks);
-    let (mut bins, mut order, mut finding) = (vec![0; 1 << k], vec![0; 1 << k], [0; 24]);
+    let (mut bins, mut order, mut finding) = (vec![0; 1 << k], vec![0; 1 << k], [0; 25]);
     table.row("jimrawel_brute_force_threads", &format!("B {block_size}, k {k}, {blocks} blocks"), move || {
         assert_eq!(calls::brute_force_threads(&sampler, &words, 0..blocks, k, &mut bins, &mut order, &mut finding), 0);
     });
@@ -139,7 +144,7 @@ fn layered(table: &mut Table, block_size: usize, k: usize, blocks: usize) {
     let (sampler, words) = fed(block_size, blocks);
     let size = store_size(block_size, k).unwrap();
     let (mut lower, mut upper) = (vec![0; size], vec![0; size]);
-    let (mut bins, mut order, mut finding) = (vec![0; 1 << k], vec![0; 1 << k], [0; 24]);
+    let (mut bins, mut order, mut finding) = (vec![0; 1 << k], vec![0; 1 << k], [0; 25]);
     table.row("jimrawel_brute_force", &format!("B {block_size}, k {k}, {blocks} blocks"), move || {
         assert_eq!(calls::brute_force(&sampler, &words, 0..blocks, k, [&mut lower, &mut upper], &mut bins, &mut order, &mut finding), 0);
     });
@@ -165,9 +170,9 @@ fn ranking(table: &mut Table) {
 fn judging(table: &mut Table) {
     for (block_size, k) in [(8, 1), (24, 20), (4096, 20)] {
         let bits = Draws::new(5).subset(block_size, k);
-        let mut finding = [0; 24];
+        let mut finding = [0; 25];
         finding[..3].copy_from_slice(&[block_size as u64, k as u64, 1]);
-        for (number, bit) in finding[4..].iter_mut().zip(bits) {
+        for (number, bit) in finding[4..24].iter_mut().zip(bits) {
             *number = bit as u64;
         }
         let order: Vec<u32> = (0..1 << k).rev().collect();
@@ -175,20 +180,23 @@ fn judging(table: &mut Table) {
         table.row("jimrawel_validate", &format!("B {block_size}, k {k}"), move || {
             assert_eq!(calls::validate(black_box(&finding), &again, &mut scratch), 0);
         });
-        let (bytes, mut scratch, mut evaluated) = (Draws::new(6).bytes(100_000), vec![0; 1 << k], [0; 3]);
-        table.row("jimrawel_evaluate_histogram", &format!("B {block_size}, k {k}"), move || {
-            assert_eq!(calls::evaluate_histogram(black_box(&finding), &order, &bytes, &mut scratch, &mut evaluated), 0);
-        });
+        for (low_first, name) in BIT_ORDERS {
+            let (order, bytes, mut scratch, mut evaluated) = (order.clone(), Draws::new(6).bytes(100_000), vec![0; 1 << k], [0; 3]);
+            finding[24] = low_first as u64;
+            table.row("jimrawel_evaluate_histogram", &format!("B {block_size}, k {k}{name}"), move || {
+                assert_eq!(calls::evaluate_histogram(black_box(&finding), &order, &bytes, &mut scratch, &mut evaluated), 0);
+            });
+        }
     }
     for k in [1, 20] {
         let finding = sound(&mut Draws::new(7), k);
-        let (numbers, text) = (numbers(&finding), to_json(&finding).into_bytes());
+        let (numbers, text) = (numbers(&finding), with_low_first(&to_json(&finding), false).into_bytes());
         let order: Vec<u32> = finding.order.iter().map(|&bin| bin as u32).collect();
         let (mut scratch, mut out, mut length) = (vec![0; 1 << k], vec![0; calls::longest_text(k)], 0);
         table.row("jimrawel_write_finding", &format!("k {k}"), move || {
             assert_eq!(calls::write_finding(black_box(&numbers), &order, &mut scratch, &mut out, &mut length), 0);
         });
-        let (mut order, mut scratch, mut read) = (vec![0; 1 << k], vec![0; 1 << k], [0; 24]);
+        let (mut order, mut scratch, mut read) = (vec![0; 1 << k], vec![0; 1 << k], [0; 25]);
         table.row("jimrawel_read_finding", &format!("k {k}"), move || {
             assert_eq!(calls::read_finding(black_box(&text), &mut order, &mut scratch, &mut read), 0);
         });

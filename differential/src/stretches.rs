@@ -2,7 +2,7 @@
 
 use crate::account::Run;
 use crate::compare_one;
-use answers::run::{start_of, Case, Recording};
+use answers::run::{bit_orders, start_of, Case, Recording};
 use answers::Draws;
 
 /// Drawn stretches of a recording; beside them it is searched whole.
@@ -12,10 +12,12 @@ pub fn run(seed: u64, recordings: u64) {
     println!("stretches: seed {seed}, {recordings} recordings, each whole and in {STRETCHES} stretches");
     let mut run = Run::new();
     for number in 0..recordings {
-        let draws = &mut Draws::new(start_of(seed, number));
+        let start = start_of(seed, number);
+        let (draws, orders) = (&mut Draws::new(start), &mut bit_orders(start));
         let recording = Recording::tied(draws);
         let parts: Vec<Recording> = (0..STRETCHES).map(|_| recording.in_part(draws)).collect();
         for searched in [vec![recording], parts].concat() {
+            let searched = searched.in_bit_order(orders);
             compare_one(&mut run, kind(&searched), number, Case::Recording(searched));
         }
     }

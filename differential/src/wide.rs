@@ -11,7 +11,7 @@ const BLOCK_SIZE: usize = 24;
 const BLOCKS: usize = 43;
 const SEED: u64 = 24;
 
-/// The finding's 24 numbers, the counts and the order.
+/// The finding's numbers but its bit order, which is high first, the counts and the order.
 #[derive(PartialEq)]
 struct Answer {
     finding: Vec<u64>,
@@ -51,8 +51,8 @@ fn compare(ours: &Answer, reference: &Answer) -> Checked {
 fn ours(k: usize) -> Answer {
     let held = held();
     let mut words = vec![u64::MAX; BLOCK_SIZE];
-    let mut sampler = [5; 3];
-    assert_eq!(ours::start(BLOCK_SIZE, &mut words, &mut sampler), 0);
+    let mut sampler = [5; 4];
+    assert_eq!(ours::start(BLOCK_SIZE, false, &mut words, &mut sampler), 0);
     let long = vec![0xFF; 64 * BLOCK_SIZE / 8];
     for (piece, refusal) in [(&held[..50], 0), (&[], 0), (&long, 5), (&held[50..61], 0), (&held[61..], 0)] {
         assert_eq!(ours::feed(&mut sampler, &mut words, piece), refusal);
@@ -62,8 +62,8 @@ fn ours(k: usize) -> Answer {
     let start = Instant::now();
     let searched = ours::direct(&sampler, &words, 0..BLOCKS, k, &mut counts, &mut order);
     println!("wide: width {k}: ours took {:.0} s", start.elapsed().as_secs_f64());
-    assert_eq!((searched.refusal, counts.pop(), order.pop()), (0, Some(LENT), Some(LENT)));
-    Answer { finding: searched.finding.to_vec(), counts, order }
+    assert_eq!((searched.refusal, searched.finding[24], counts.pop(), order.pop()), (0, 0, Some(LENT), Some(LENT)));
+    Answer { finding: searched.finding[..24].to_vec(), counts, order }
 }
 
 /// From the file that an earlier run left, or by the search.
@@ -92,7 +92,7 @@ fn search(k: usize) -> String {
     let line = |list: Vec<String>| list.join(" ");
     [
         format!("{seconds:.0}"),
-        line(numbers(&found).iter().map(u64::to_string).collect()),
+        line(numbers(&found)[..24].iter().map(u64::to_string).collect()),
         line(counts.iter().map(usize::to_string).collect()),
         line(found.order.iter().map(usize::to_string).collect()),
     ]

@@ -17,17 +17,19 @@ pub fn run() {
     let mut run = Run::new();
     for (block_size, widest) in SIZES {
         for k in 1..=widest {
-            println!("B {block_size}, k {k}");
-            run.compare("recordings", |searches| compare(&drawn(block_size, k), WORK, searches));
+            let case = drawn(block_size, k);
+            println!("B {block_size}, k {k}{}", if case.low_first { ", low first" } else { "" });
+            run.compare("recordings", |searches| compare(&case, WORK, searches));
         }
     }
     run.close("widths");
 }
 
-/// 70 blocks and a part of one, of two values, a short period or few values, so that scores tie.
+/// 70 blocks and a part of one, of two values, a short period or few values, so that scores tie; the bit order goes from width to width.
 fn drawn(block_size: usize, k: usize) -> Recording {
     let draws = &mut Draws::new((block_size * 32 + k) as u64);
     let held = recording(draws, [5, 0, 3][k % 3], 70 * block_size / 8 + block_size / 16);
     let (words, pieces) = (2 * block_size + 3, cut(draws, &held, 4));
-    Recording { block_size, words, pieces, stretch: 0..70, k, bins: 0, order: 1, stores: [1, 0], stale: false }
+    let low_first = (block_size / 8 + k) % 2 == 0;
+    Recording { block_size, words, pieces, stretch: 0..70, k, bins: 0, order: 1, stores: [1, 0], stale: false, low_first, mark: None }
 }

@@ -1,5 +1,5 @@
 /* A recording fed in two pieces, searched both ways, its later blocks alone too, the finding evaluated on other bytes and on none, written as text and read
-   again. Prints what it finds. */
+   again; then a recording with the low bit first. Prints what it finds. */
 #include "../jimrawel.h"
 
 #include <inttypes.h>
@@ -74,6 +74,34 @@ static uint32_t exchange(const uint64_t *finding, const uint32_t *order) {
     return refusal;
 }
 
+/* Starts a recording and feeds it four bytes in two pieces. */
+static void record(bool low_first, const uint8_t *bytes, uint64_t *words, uint64_t *sampler) {
+    uint32_t refusal = jimrawel_start(B, low_first, words, B, sampler, JIMRAWEL_SAMPLER);
+    if (refusal != JIMRAWEL_OK) exit(failed("start", refusal));
+    for (size_t at = 0; at < 4; at += 2)
+        if ((refusal = jimrawel_feed(sampler, JIMRAWEL_SAMPLER, words, B, bytes + at, 2)) != JIMRAWEL_OK) exit(failed("feed", refusal));
+}
+
+/* The first bit of these bytes, at their low end, is now and then 0, and the others always: high bit first that would be bit 7, and bits 0 and 1 the first that
+   never change. */
+static uint32_t low_first(void) {
+    const uint8_t bytes[] = {0x01, 0x01, 0x01, 0x00};
+    uint64_t words[B], sampler[JIMRAWEL_SAMPLER], finding[JIMRAWEL_FINDING], evaluated[JIMRAWEL_EVALUATED];
+    uint32_t bins[BINS], order[BINS];
+    record(true, bytes, words, sampler);
+    printf("low bit first: ");
+    uint32_t refusal = search(sampler, words, 0, jimrawel_blocks(sampler, JIMRAWEL_SAMPLER), order, finding);
+    if (refusal == JIMRAWEL_OK)
+        refusal = jimrawel_evaluate_histogram(
+            finding, JIMRAWEL_FINDING, order, BINS, bytes, sizeof bytes, bins, BINS, evaluated, JIMRAWEL_EVALUATED);
+    if (refusal != JIMRAWEL_OK) return refusal;
+    print_evaluated(evaluated);
+    if ((refusal = exchange(finding, order)) != JIMRAWEL_OK) return refusal;
+    sampler[JIMRAWEL_SAMPLER_LOW_FIRST] = 2;
+    printf("a bit order that is none: refusal %" PRIu32 "\n", jimrawel_feed(sampler, JIMRAWEL_SAMPLER, words, B, bytes, sizeof bytes));
+    return JIMRAWEL_OK;
+}
+
 int main(void) {
     const uint8_t training[] = {0x00, 0x00, 0xFF, 0xFF};
     const uint8_t testing[] = {0x00, 0x80, 0xFF, 0xFF};
@@ -82,10 +110,7 @@ int main(void) {
     uint32_t bins[BINS], order[BINS], later_order[BINS];
     uint32_t refusal;
 
-    if ((refusal = jimrawel_start(B, words, B, sampler, JIMRAWEL_SAMPLER)) != JIMRAWEL_OK) return failed("start", refusal);
-    for (size_t at = 0; at < sizeof training; at += 2)
-        if ((refusal = jimrawel_feed(sampler, JIMRAWEL_SAMPLER, words, B, training + at, 2)) != JIMRAWEL_OK) return failed("feed", refusal);
-
+    record(false, training, words, sampler);
     size_t n = jimrawel_blocks(sampler, JIMRAWEL_SAMPLER);
     if ((refusal = search(sampler, words, 0, n, order, finding)) != JIMRAWEL_OK) return failed("search", refusal);
     printf("from block 2 on: ");
@@ -105,5 +130,7 @@ int main(void) {
     static const uint8_t long_piece[61];
     refusal = jimrawel_feed(sampler, JIMRAWEL_SAMPLER, words, B, long_piece, sizeof long_piece);
     printf("a piece past capacity: refusal %" PRIu32 "\n", refusal);
+
+    if ((refusal = low_first()) != JIMRAWEL_OK) return failed("low bit first", refusal);
     return 0;
 }

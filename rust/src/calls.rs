@@ -4,8 +4,15 @@
 use crate::raw;
 use std::ops::Range;
 
-pub fn start(block_size: usize, words: &mut [u64], sampler: &mut [u64]) -> u32 {
-    unsafe { raw::jimrawel_start(block_size, words.as_mut_ptr(), words.len(), sampler.as_mut_ptr(), sampler.len()) }
+pub fn start(block_size: usize, low_first: bool, words: &mut [u64], sampler: &mut [u64]) -> u32 {
+    unsafe {
+        raw::jimrawel_start(
+            block_size,
+            low_first,
+            words.as_mut_ptr(), words.len(),
+            sampler.as_mut_ptr(), sampler.len(),
+        )
+    }
 }
 
 pub fn feed(sampler: &mut [u64], words: &mut [u64], piece: &[u8]) -> u32 {

@@ -1,10 +1,11 @@
+use crate::bit_order::BitOrder;
 use crate::calls;
 use crate::refusal::{accepted, Refusal};
 
-/// A distinguisher: bits of a block, the order of their bins, the division of that order and the score there.
+/// A distinguisher: bits of a block and the bit order by which they are numbered, the order of their bins, the division of that order and the score there.
 #[derive(Clone, Debug, PartialEq)]
 pub struct Finding {
-    numbers: [u64; 24],
+    numbers: [u64; 25],
     bits: Vec<u32>,
     order: Vec<u32>,
     counts: Vec<u32>,
@@ -19,43 +20,44 @@ pub struct Evaluation {
 }
 
 impl Finding {
-    pub(crate) fn found(numbers: [u64; 24], order: Vec<u32>, counts: Vec<u32>) -> Finding {
+    pub(crate) fn found(numbers: [u64; 25], order: Vec<u32>, counts: Vec<u32>) -> Finding {
         let bits = numbers[4..4 + numbers[1] as usize].iter().map(|&bit| bit as u32).collect();
         Finding { numbers, bits, order, counts }
     }
 
     /// A finding from elsewhere, where it is sound. Its score and counts are not known: 0 and none.
-    pub fn checked(block_size: usize, bits: &[u32], order: &[u32], division: u32) -> Result<Finding, Refusal> {
-        let mut numbers = [0; 24];
+    pub fn checked(block_size: usize, bit_order: BitOrder, bits: &[u32], order: &[u32], division: u32) -> Result<Finding, Refusal> {
+        let mut numbers = [0; 25];
         numbers[..3].copy_from_slice(&[block_size as u64, bits.len() as u64, division as u64]);
-        for (number, &bit) in numbers[4..].iter_mut().zip(bits) {
+        for (number, &bit) in numbers[4..24].iter_mut().zip(bits) {
             *number = bit as u64;
         }
+        numbers[24] = bit_order.low_first() as u64;
         let mut scratch = vec![0; order.len()];
         accepted(calls::validate(&numbers, order, &mut scratch))?;
         Ok(Finding::found(numbers, order.to_vec(), Vec::new()))
     }
 
     /// A finding from its text, where that is an object as [`to_json`](Finding::to_json) writes it, its keys in any order, with white space and a z_score
-    /// or without, and the finding is sound. Its score and counts are not known: 0 and none.
+    /// or without, and the finding is sound. Without low_first the high bit comes first. Its score and counts are not known: 0 and none.
     pub fn from_json(text: &[u8]) -> Result<Finding, Refusal> {
         // A text of n bytes has no more than n / 2 indices, so that neither is too short for it.
         let (mut order, mut scratch) = (vec![0; text.len() / 2], vec![0; text.len() / 2]);
-        let mut numbers = [0; 24];
+        let mut numbers = [0; 25];
         accepted(calls::read_finding(text, &mut order, &mut scratch, &mut numbers))?;
         order.truncate(1 << numbers[1]);
         order.shrink_to_fit();
         Ok(Finding::found(numbers, order, Vec::new()))
     }
 
-    /// The finding and its order as the upstream tool writes and reads them: one object with the keys bits, sorted_indices, best_division and block_size.
-    /// The score and the counts are not in it.
+    /// The finding and its order as the upstream tool writes and reads them: one object with the keys bits, sorted_indices, best_division and block_size,
+    /// and low_first, which that tool passes over. The score and the counts are not in it.
     ///
     /// ```
-    /// use jimrawel::{Finding, Refusal};
-    /// let finding = Finding::checked(16, &[3, 9], &[2, 0, 3, 1], 2)?;
+    /// use jimrawel::{BitOrder, Finding, Refusal};
+    /// let finding = Finding::checked(16, BitOrder::LowFirst, &[3, 9], &[2, 0, 3, 1], 2)?;
     /// let text = finding.to_json();
-    /// assert_eq!(text, r#"{"bits":[3,9],"sorted_indices":[2,0,3,1],"best_division":2,"block_size":16}"#);
+    /// assert_eq!(text, r#"{"bits":[3,9],"sorted_indices":[2,0,3,1],"best_division":2,"block_size":16,"low_first":true}"#);
     /// assert_eq!(Finding::from_json(text.as_bytes())?, finding);
     /// assert_eq!(Finding::from_json(b"{}"), Err(Refusal::Text));
     /// # Ok::<(), Refusal>(())
@@ -71,6 +73,11 @@ impl Finding {
 
     pub fn block_size(&self) -> usize {
         self.numbers[0] as usize
+    }
+
+    /// That of the recording that was searched; of a finding from elsewhere, as it was given.
+    pub fn bit_order(&self) -> BitOrder {
+        BitOrder::of(self.numbers[24])
     }
 
     pub fn bits(&self) -> &[u32] {
@@ -96,7 +103,7 @@ impl Finding {
         &self.counts
     }
 
-    /// How the finding does on the whole blocks of other bytes.
+    /// How the finding does on the whole blocks of other bytes, their bits taken in its bit order.
     pub fn evaluate(&self, bytes: &[u8]) -> Result<Evaluation, Refusal> {
         let mut counts = vec![0; self.order.len()];
         let mut numbers = [0; 3];

@@ -4,8 +4,8 @@
 //! have the right size by construction, and what is refused is a [`Refusal`].
 //!
 //! ```
-//! use jimrawel::{Refusal, Sampler};
-//! let mut sampler = Sampler::start(8, 64)?;
+//! use jimrawel::{BitOrder, Refusal, Sampler};
+//! let mut sampler = Sampler::start(8, BitOrder::HighFirst, 64)?;
 //! sampler.feed(&[0x00, 0x00, 0xFF])?;
 //! sampler.feed(&[0xFF])?;
 //! let finding = sampler.search_layered(2)?;
@@ -15,16 +15,25 @@
 //! assert_eq!((evaluation.positive, evaluation.z), (3, Some(1.0)));
 //! let later = sampler.search_layered_in(2..sampler.blocks(), 2)?;
 //! assert_eq!((later.bits(), later.counts(), later.division()), (&[0, 1][..], &[0, 0, 0, 2][..], 1));
-//! assert_eq!(Sampler::start(12, 64).unwrap_err(), Refusal::BlockSize);
+//! assert_eq!(Sampler::start(12, BitOrder::HighFirst, 64).unwrap_err(), Refusal::BlockSize);
+//!
+//! // A recorder that packs the first bit at the low end of a byte: it is bit 0, and what never changes begins with bit 1.
+//! let mut low = Sampler::start(8, BitOrder::LowFirst, 64)?;
+//! low.feed(&[0x01, 0x01, 0x01, 0x00])?;
+//! let finding = low.search_layered(2)?;
+//! assert_eq!((finding.bit_order(), finding.bits()), (BitOrder::LowFirst, &[1, 2][..]));
+//! assert_eq!(finding.evaluate(&[0x01, 0x04])?.counts, [1, 0, 1, 0]);
 //! # Ok::<(), Refusal>(())
 //! ```
 
+mod bit_order;
 pub mod calls;
 mod finding;
 mod raw;
 mod refusal;
 mod sampler;
 
+pub use bit_order::BitOrder;
 pub use finding::{Evaluation, Finding};
 pub use refusal::Refusal;
 pub use sampler::Sampler;

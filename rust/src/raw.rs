@@ -5,6 +5,7 @@
 extern "C" {
     pub fn jimrawel_start(
         block_size: usize,
+        low_first: bool,
         words: *mut u64, words_len: usize,
         sampler: *mut u64, sampler_len: usize,
     ) -> u32;

@@ -30,7 +30,7 @@ pub enum Refusal {
     NoPermutation = 13,
     /// The division is 0, or the number of bins or more.
     Division = 14,
-    /// The text is no such object, or a number of its four keys is above 2^32 - 1.
+    /// The text is no such object, or a number of it but a z_score is above 2^32 - 1.
     Text = 16,
     /// The output or the order buffer is too short.
     Room = 17,
@@ -40,9 +40,11 @@ pub enum Refusal {
     ShortRecord = 25,
     /// The counts of a ranking add up to 2^32 or more.
     TooManyCounted = 26,
+    /// A sampler or a finding has a bit order that is neither 0 nor 1.
+    BitOrder = 27,
 }
 
-const ALL: [Refusal; 19] = [
+const ALL: [Refusal; 20] = [
     Refusal::BlockSize,
     Refusal::Width,
     Refusal::WidthAboveBlock,
@@ -62,6 +64,7 @@ const ALL: [Refusal; 19] = [
     Refusal::Stretch,
     Refusal::ShortRecord,
     Refusal::TooManyCounted,
+    Refusal::BitOrder,
 ];
 
 impl Refusal {

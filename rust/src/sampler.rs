@@ -1,3 +1,4 @@
+use crate::bit_order::BitOrder;
 use crate::calls;
 use crate::finding::Finding;
 use crate::refusal::{accepted, Refusal};
@@ -6,27 +7,31 @@ use std::ops::Range;
 /// A recording in progress, with the words that hold it.
 #[derive(Clone, Debug)]
 pub struct Sampler {
-    numbers: [u64; 3],
+    numbers: [u64; 4],
     words: Vec<u64>,
 }
 
 impl Sampler {
-    /// A recording of blocks of `block_size` bits, with room for at least `blocks` of them, up to 16,777,216.
-    pub fn start(block_size: usize, blocks: usize) -> Result<Sampler, Refusal> {
-        let mut sampler = Sampler { numbers: [0; 3], words: Vec::new() };
-        sampler.call_start(block_size)?;
+    /// A recording of blocks of `block_size` bits, in the recorder's bit order, with room for at least `blocks` of them, up to 16,777,216.
+    pub fn start(block_size: usize, bit_order: BitOrder, blocks: usize) -> Result<Sampler, Refusal> {
+        let mut sampler = Sampler { numbers: [0; 4], words: Vec::new() };
+        sampler.call_start(block_size, bit_order)?;
         sampler.words = vec![0; block_size * blocks.min(16_777_216).div_ceil(64)];
-        sampler.call_start(block_size)?;
+        sampler.call_start(block_size, bit_order)?;
         Ok(sampler)
     }
 
-    fn call_start(&mut self, block_size: usize) -> Result<(), Refusal> {
+    fn call_start(&mut self, block_size: usize, bit_order: BitOrder) -> Result<(), Refusal> {
         let Sampler { numbers, words } = self;
-        accepted(calls::start(block_size, words, numbers))
+        accepted(calls::start(block_size, bit_order.low_first(), words, numbers))
     }
 
     pub fn block_size(&self) -> usize {
         self.numbers[0] as usize
+    }
+
+    pub fn bit_order(&self) -> BitOrder {
+        BitOrder::of(self.numbers[3])
     }
 
     /// The bytes taken so far.
@@ -75,9 +80,9 @@ impl Sampler {
 }
 
 /// Bins, order and finding for a width, empty for one that is refused.
-fn buffers(k: usize) -> (Vec<u32>, Vec<u32>, [u64; 24]) {
+fn buffers(k: usize) -> (Vec<u32>, Vec<u32>, [u64; 25]) {
     let bins = if k <= 20 { 1 << k } else { 0 };
-    (vec![0; bins], vec![0; bins], [0; 24])
+    (vec![0; bins], vec![0; bins], [0; 25])
 }
 
 /// The entries of a store, the largest C(B, d) x 2^d for d from 1 to max(1, k - 1); 0 where the search is refused anyway.

@@ -1,8 +1,8 @@
-use jimrawel::{calls, plan, rank, split, Finding, Refusal, Sampler};
+use jimrawel::{calls, plan, rank, split, BitOrder::*, Finding, Refusal, Sampler};
 
 #[test]
 fn pieces_are_one_recording() {
-    let mut whole = Sampler::start(16, 100).unwrap();
+    let mut whole = Sampler::start(16, HighFirst, 100).unwrap();
     let mut pieces = whole.clone();
     let bytes: Vec<u8> = (0..200).map(|i| (i * 37 % 251) as u8).collect();
     whole.feed(&bytes).unwrap();
@@ -20,10 +20,10 @@ fn pieces_are_one_recording() {
 #[test]
 fn a_stretch_is_a_recording_of_its_blocks() {
     let bytes: Vec<u8> = (0..401).map(|i| (i * i % 7 * 37) as u8).collect();
-    let mut whole = Sampler::start(16, 200).unwrap();
+    let mut whole = Sampler::start(16, HighFirst, 200).unwrap();
     whole.feed(&bytes).unwrap();
     for stretch in [0..200, 1..200, 0..199, 63..64, 63..65, 64..128, 65..193, 199..200, 30..30, 200..200] {
-        let mut alone = Sampler::start(16, stretch.len()).unwrap();
+        let mut alone = Sampler::start(16, HighFirst, stretch.len()).unwrap();
         alone.feed(&bytes[2 * stretch.start..2 * stretch.end]).unwrap();
         for k in 1..4 {
             let found = alone.search_direct(k).unwrap();
@@ -38,7 +38,7 @@ fn a_stretch_is_a_recording_of_its_blocks() {
 
 #[test]
 fn other_stretches() {
-    let mut sampler = Sampler::start(16, 64).unwrap();
+    let mut sampler = Sampler::start(16, HighFirst, 64).unwrap();
     sampler.feed(&[0xA5; 21]).unwrap();
     assert_eq!(sampler.blocks(), 10);
     for (first, end) in [(1, 0), (10, 9), (0, 11), (11, 11), (0, usize::MAX), (usize::MAX, 10), (1 << 32, (1 << 32) + 1)] {
@@ -48,28 +48,93 @@ fn other_stretches() {
             assert_eq!(sampler.search_layered_in(first..end, k), Err(Refusal::Stretch), "{first}..{end}");
         }
     }
-    let (words, mut bins, mut order, mut stores, mut finding) = ([0; 16], [9; 4], [9; 4], [[9; 32]; 2], [9; 24]);
+    let (words, mut bins, mut order, mut stores, mut finding) = ([0; 16], [9; 4], [9; 4], [[9; 32]; 2], [9; 25]);
     let [lower, upper] = &mut stores;
-    assert_eq!(calls::brute_force(&[16, 16, 21], &words, 0..11, 2, [lower, upper], &mut bins, &mut order, &mut finding), Refusal::Stretch.number());
-    assert_eq!((bins, order, stores, finding), ([9; 4], [9; 4], [[9; 32]; 2], [0; 24]));
-    assert_eq!(calls::brute_force_threads(&[16, 15, 21], &words, 0..11, 2, &mut bins, &mut order, &mut finding), Refusal::Sampler.number());
-    assert_eq!((calls::blocks(&[16, 16, 21]), calls::blocks(&[16, 16]), calls::blocks(&[0, 16, 21])), (10, 0, 0));
+    assert_eq!(calls::brute_force(&[16, 16, 21, 0], &words, 0..11, 2, [lower, upper], &mut bins, &mut order, &mut finding), Refusal::Stretch.number());
+    assert_eq!((bins, order, stores, finding), ([9; 4], [9; 4], [[9; 32]; 2], [0; 25]));
+    assert_eq!(calls::brute_force_threads(&[16, 15, 21, 0], &words, 0..11, 2, &mut bins, &mut order, &mut finding), Refusal::Sampler.number());
+    assert_eq!((calls::blocks(&[16, 16, 21, 1]), calls::blocks(&[16, 16, 21]), calls::blocks(&[0, 16, 21, 0])), (10, 0, 0));
+}
+
+#[test]
+fn low_first_is_high_first_of_reversed_bytes() {
+    let bytes: Vec<u8> = (0..401).map(|i| (i * i % 11 * 23) as u8).collect();
+    let reversed: Vec<u8> = bytes.iter().map(|byte| byte.reverse_bits()).collect();
+    let (mut low, mut high) = (Sampler::start(16, LowFirst, 200).unwrap(), Sampler::start(16, HighFirst, 200).unwrap());
+    assert_eq!((low.bit_order(), high.bit_order()), (LowFirst, HighFirst));
+    bytes.chunks(7).for_each(|piece| low.feed(piece).unwrap());
+    high.feed(&reversed).unwrap();
+    for stretch in [0..200, 63..65, 5..193, 30..30] {
+        for k in 1..5 {
+            let (found, other) = (low.search_layered_in(stretch.clone(), k).unwrap(), high.search_layered_in(stretch.clone(), k).unwrap());
+            assert_eq!(low.search_direct_in(stretch.clone(), k).as_ref(), Ok(&found));
+            assert_eq!((found.bit_order(), other.bit_order()), (LowFirst, HighFirst));
+            assert_eq!((found.bits(), found.order(), found.counts()), (other.bits(), other.order(), other.counts()));
+            assert_eq!((found.division(), found.z().to_bits()), (other.division(), other.z().to_bits()));
+            assert_ne!(found, other);
+            assert_eq!(found.evaluate(&bytes), other.evaluate(&reversed));
+            assert_eq!(found.evaluate(&bytes[2 * stretch.start..2 * stretch.end]).unwrap().counts, found.counts());
+
+            let (text, plain) = (found.to_json(), other.to_json());
+            assert_eq!(text, plain.replace("\"low_first\":false", "\"low_first\":true"));
+            let again = Finding::from_json(text.as_bytes()).unwrap();
+            assert_eq!(again, Finding::checked(16, LowFirst, found.bits(), found.order(), found.division()).unwrap());
+            assert_eq!((again.bit_order(), again.to_json(), again.evaluate(&bytes)), (LowFirst, text, found.evaluate(&bytes)));
+            // Without the key the high bit comes first.
+            let silent = plain.replace(",\"low_first\":false", "");
+            assert_eq!(Finding::from_json(silent.as_bytes()), Finding::from_json(plain.as_bytes()));
+        }
+    }
+}
+
+/// 27 comes before every other refusal but 25, and beside it nothing at all is written.
+#[test]
+fn other_bit_orders() {
+    for mark in [2, 3, 255, 256, 1 << 32, (1 << 32) + 1, u64::MAX] {
+        // All the rest is refused too: the number of words, the stretch, the width, the buffers.
+        for (words_said, stretch, k, room) in [(16, 0..10, 2, 4), (15, 0..11, 0, 0)] {
+            let lent = [16, words_said, 21, mark];
+            let (mut sampler, mut words) = (lent, [9; 16]);
+            assert_eq!(calls::feed(&mut sampler, &mut words, &[0xFF; 3]), Refusal::BitOrder.number());
+            assert_eq!((sampler, words, calls::blocks(&sampler)), (lent, [9; 16], 0));
+            let (mut bins, mut order, mut stores, mut finding) = ([9; 4], [9; 4], [[9; 32]; 2], [9; 25]);
+            let (bins, order) = (&mut bins[..room], &mut order[..room]);
+            assert_eq!(calls::brute_force_threads(&sampler, &words, stretch.clone(), k, bins, order, &mut finding), Refusal::BitOrder.number());
+            let [lower, upper] = &mut stores;
+            assert_eq!(calls::brute_force(&sampler, &words, stretch, k, [lower, upper], bins, order, &mut finding), Refusal::BitOrder.number());
+            assert_eq!((&bins[..], &order[..], stores, finding), (&[9; 4][..room], &[9; 4][..room], [[9; 32]; 2], [9; 25]));
+        }
+        for (block_size, width) in [(8, 2), (12, 0)] {
+            let finding = [[block_size, width, 1, 0, 1, 2].as_slice(), &[0; 18], &[mark]].concat();
+            let (mut scratch, mut evaluated, mut out, mut length) = ([9; 4], [9; 3], [9; 200], 9);
+            assert_eq!(calls::validate(&finding, &[0, 1, 2, 3], &mut scratch), Refusal::BitOrder.number());
+            assert_eq!(calls::evaluate_histogram(&finding, &[0, 1, 2, 3], &[0, 1], &mut scratch, &mut evaluated), Refusal::BitOrder.number());
+            assert_eq!(calls::write_finding(&finding, &[0, 1, 2, 3], &mut scratch, &mut out, &mut length), Refusal::BitOrder.number());
+            assert_eq!((scratch, evaluated, out, length), ([9; 4], [9; 3], [9; 200], 9));
+        }
+    }
+    // A record that is too short comes first.
+    assert_eq!(calls::feed(&mut [16, 16, 21], &mut [0; 16], &[]), Refusal::ShortRecord.number());
+    assert_eq!(calls::brute_force_threads(&[16, 16, 0, 2], &[0; 16], 0..0, 1, &mut [0; 2], &mut [0; 2], &mut [0; 24]), Refusal::ShortRecord.number());
+    assert_eq!(calls::validate(&[2; 24], &[], &mut []), Refusal::ShortRecord.number());
 }
 
 #[test]
 fn refusals() {
-    let sampler = Sampler::start(8, 1).unwrap();
-    assert_eq!(Sampler::start(4104, 1).unwrap_err().number(), 1);
+    let sampler = Sampler::start(8, HighFirst, 1).unwrap();
+    assert_eq!(Sampler::start(4104, HighFirst, 1).unwrap_err().number(), 1);
+    let mut started = [9; 4];
+    assert_eq!((calls::start(4104, true, &mut [], &mut started), started), (Refusal::BlockSize.number(), [0; 4]));
     assert_eq!(sampler.search_direct(0).unwrap_err(), Refusal::Width);
     assert_eq!(sampler.search_layered(21).unwrap_err(), Refusal::Width);
     assert_eq!(sampler.search_layered(9).unwrap_err(), Refusal::WidthAboveBlock);
-    assert_eq!(Sampler::start(4096, 1).unwrap().search_layered(5).unwrap_err(), Refusal::Store);
-    assert_eq!(Finding::checked(8, &[1, 1], &[0, 1, 2, 3], 1), Err(Refusal::BitsNotRising));
-    assert_eq!(Finding::checked(8, &[1, 8], &[0, 1, 2, 3], 1), Err(Refusal::BitOutside));
-    assert_eq!(Finding::checked(8, &[1, 2], &[0, 1, 2], 1), Err(Refusal::OrderLength));
-    assert_eq!(Finding::checked(8, &[1, 2], &[0, 1, 2, 2], 1), Err(Refusal::NoPermutation));
-    assert_eq!(Finding::checked(8, &[1, 2], &[0, 1, 2, 3], 4), Err(Refusal::Division));
-    assert_eq!(Finding::checked(8, &[1, 2], &[0, 1, 2, 3], 3).unwrap().evaluate(&[]).unwrap().z, None);
+    assert_eq!(Sampler::start(4096, HighFirst, 1).unwrap().search_layered(5).unwrap_err(), Refusal::Store);
+    assert_eq!(Finding::checked(8, HighFirst, &[1, 1], &[0, 1, 2, 3], 1), Err(Refusal::BitsNotRising));
+    assert_eq!(Finding::checked(8, HighFirst, &[1, 8], &[0, 1, 2, 3], 1), Err(Refusal::BitOutside));
+    assert_eq!(Finding::checked(8, HighFirst, &[1, 2], &[0, 1, 2], 1), Err(Refusal::OrderLength));
+    assert_eq!(Finding::checked(8, HighFirst, &[1, 2], &[0, 1, 2, 2], 1), Err(Refusal::NoPermutation));
+    assert_eq!(Finding::checked(8, HighFirst, &[1, 2], &[0, 1, 2, 3], 4), Err(Refusal::Division));
+    assert_eq!(Finding::checked(8, HighFirst, &[1, 2], &[0, 1, 2, 3], 3).unwrap().evaluate(&[]).unwrap().z, None);
 }
 
 #[test]
@@ -83,19 +148,19 @@ fn ranks_parts_plans() {
 #[test]
 fn texts() {
     let bytes: Vec<u8> = (0..200).map(|i| (i * 37 % 251) as u8).collect();
-    let mut sampler = Sampler::start(16, 100).unwrap();
+    let mut sampler = Sampler::start(16, HighFirst, 100).unwrap();
     sampler.feed(&bytes).unwrap();
     for k in 1..6 {
         let found = sampler.search_layered(k).unwrap();
         let text = found.to_json();
         let again = Finding::from_json(text.as_bytes()).unwrap();
-        assert_eq!(again, Finding::checked(16, found.bits(), found.order(), found.division()).unwrap());
+        assert_eq!(again, Finding::checked(16, HighFirst, found.bits(), found.order(), found.division()).unwrap());
         assert_eq!((again.z(), again.counts(), again.to_json()), (0.0, &[][..], text));
         assert_eq!(again.evaluate(&bytes).unwrap().counts, found.counts());
     }
     let order: Vec<u32> = (0..1 << 20).rev().collect();
     let bits: Vec<u32> = (4076..4096).collect();
-    let wide = Finding::checked(4096, &bits, &order, (1 << 20) - 1).unwrap();
+    let wide = Finding::checked(4096, HighFirst, &bits, &order, (1 << 20) - 1).unwrap();
     assert_eq!(Finding::from_json(wide.to_json().as_bytes()), Ok(wide));
 }
 
@@ -103,8 +168,8 @@ fn texts() {
 fn other_texts() {
     let read = |text: &str| Finding::from_json(text.as_bytes());
     let spread = " {\t\"block_size\" : 8 , \"z_score\":-1.5e+3,\n\"best_division\":1,\"sorted_indices\":[1,0 ],\"bits\": [ 3 ]}\r\n";
-    assert_eq!(read(spread), Finding::checked(8, &[3], &[1, 0], 1));
-    assert_eq!(read(spread).unwrap().to_json(), r#"{"bits":[3],"sorted_indices":[1,0],"best_division":1,"block_size":8}"#);
+    assert_eq!(read(spread), Finding::checked(8, HighFirst, &[3], &[1, 0], 1));
+    assert_eq!(read(spread).unwrap().to_json(), r#"{"bits":[3],"sorted_indices":[1,0],"best_division":1,"block_size":8,"low_first":false}"#);
     assert_eq!(Finding::from_json(&spread.as_bytes()[..spread.len() - 3]), Err(Refusal::Text));
     let text = |bits: &str, order: &str, division: &str, size: &str| {
         format!(r#"{{"bits":[{bits}],"sorted_indices":[{order}],"best_division":{division},"block_size":{size}}}"#)
@@ -119,15 +184,17 @@ fn other_texts() {
         (text("1,2", "0,1,2,3", "4", "8"), Refusal::Division),
         (text("1,2", "0,1,2,3", "1", "8.0"), Refusal::Text),
         (text("1,2", "0,1,2,3", "1", "4294967296"), Refusal::Text),
+        (text("1,2", "0,1,2,3", "1", "8,\"low_first\":1"), Refusal::Text),
+        (text("1,2", "0,1,2,3", "1", "8,\"low_first\":true,\"low_first\":true"), Refusal::Text),
     ] {
         assert_eq!(read(&given), Err(refusal), "{given}");
     }
-    let (mut order, mut scratch, mut numbers, mut out, mut length) = ([9; 3], [9; 4], [9; 24], [9; 70], 9);
+    let (mut order, mut scratch, mut numbers, mut out, mut length) = ([9; 3], [9; 4], [9; 25], [9; 89], 9);
     let sound = text("1,2", "0,1,2,3", "1", "8");
     assert_eq!(calls::read_finding(sound.as_bytes(), &mut order, &mut scratch, &mut numbers), Refusal::Room.number());
-    assert_eq!((order, scratch, numbers), ([9; 3], [9; 4], [0; 24]));
-    let finding = [[8, 2, 1, 0, 1, 2].as_slice(), &[0; 18]].concat();
+    assert_eq!((order, scratch, numbers), ([9; 3], [9; 4], [0; 25]));
+    let finding = [[8, 2, 1, 0, 1, 2].as_slice(), &[0; 19]].concat();
     assert_eq!(calls::write_finding(&finding, &[0, 1, 2, 3], &mut scratch, &mut out, &mut length), Refusal::Room.number());
-    assert_eq!((scratch, out, length), ([0; 4], [9; 70], 0));
+    assert_eq!((scratch, out, length), ([0; 4], [9; 89], 0));
     assert_eq!((calls::longest_text(0), calls::longest_text(21)), (0, 0));
 }

@@ -30,14 +30,22 @@ pub fn dirty() -> [u64; 8192]
     [18446744073709551615; 8192]
 }
 
-// Starts, then reads the number of pieces and the pieces, each its length and its bytes, and feeds them.
-// Prints a line: start's refusal and, for each feed, its refusal and the bytes taken after it.
-pub fn record(text: &[u8], at: usize, block_size: usize, words: &mut [u64]) -> Recorded {
-    let started = start(block_size, words);
+// Starts in the given bit order, then reads the number of pieces and the pieces, each its length and its bytes, and feeds them.
+// Prints a line: start's refusal; for each feed its refusal and the bytes taken after it; the bit order of the sampler last returned, 1 where the low bit
+// comes first, else 0.
+pub fn record(
+    text: &[u8],
+    at: usize,
+    block_size: usize,
+    low_first: bool,
+    words: &mut [u64],
+) -> Recorded {
+    let started = start(block_size, low_first, words);
     print(started.refusal as u64);
     let fed = feed_all(text, at, started.sampler, words);
-    end_line();
     let sampler = fed.sampler;
+    print(sampler.low_first as u64);
+    end_line();
     Recorded {
         refusal: started.refusal,
         sampler,

@@ -6,7 +6,7 @@ use native.Mathlib.Omega.{arith}
 use native.Mathlib.Nat.{add-mul, mul-le-mul-right, div-mul-le-self, mul-div-cancel}
 use lib.ListN.{length, getD, take, drop, length-take, length-drop}
 use lib.Seq.{getD-take, getD-drop}
-use Rattle.counting.specs.Block.{bitAt, blockBit}
+use Rattle.counting.specs.Block.{bitAt, placeIn, blockBit}
 use Rattle.counting.specs.Recording.{recordedBit}
 use Rattle.counting.specs.Stretch.{stretchBytes, StretchesAlone}
 use Rattle.counting.proofs.Accepted.{valid-facts}
@@ -25,7 +25,7 @@ byte-alone w held first n e i he hi =
 
 pub stretches-alone : StretchesAlone
 unfolding recordedBit blockBit
-stretches-alone B held first end ok order has =
+stretches-alone B low held first end ok order has =
     let v = valid-facts B ok in
     let w = B / 8 in
     let n = end - first in
@@ -36,8 +36,8 @@ stretches-alone B held first end ok order has =
     record {
       blocks = ap (λ (k : ℕ). k / w) size ∙ mul-div-cancel n some;
       bits = λ e b he hb.
-          let low : b / 8 < w = omega (arith, v) in
-          ap (λ (x : ℕ). bitAt x (7 - b % 8))
-          (byte-of w held (first + e) (b / 8) low
-          ∙ sym (byte-of w (stretchBytes B held first end) e (b / 8) low ∙ byte-alone w held first n e (b / 8) he low));
+          let within : b / 8 < w = omega (arith, v) in
+          ap (λ (x : ℕ). bitAt x (placeIn low (b % 8)))
+          (byte-of w held (first + e) (b / 8) within
+          ∙ sym (byte-of w (stretchBytes B held first end) e (b / 8) within ∙ byte-alone w held first n e (b / 8) he within));
     }

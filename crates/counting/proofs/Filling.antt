@@ -12,20 +12,20 @@ use lib.Dec.{leb}
 use lib.ListN.{length, getD, take, length-set, length-append, List·getD-append, List·getD-eq-default}
 use lib.Seq.{getD-set-same, getD-set-other, getD-append-seam, take-suc, length-take-le}
 use borrow.Author.Tests.{le-leb, lt-leb}
-use Rattle.counting.specs.Block.{bitAt}
+use Rattle.counting.specs.Block.{bitAt, placeIn}
 use Rattle.counting.specs.Words.{putBit, putBits, putByte, putBytes, storedBit, arrivingBit}
 use Rattle.counting.proofs.Lanes.{bit-lt, bit-zero, bit-or, moved-at, moved-off}
 
 -- ---- one step more, as a loop counts
 
-pub putBits-next : (S : ℕ) (ws : List ℕ) (at k x r : ℕ) → putBits S ws at k x (r + 1) ≡ putBit (putBits S ws at k x r) (at + r * S) k (bitAt x (7 - r))
+pub putBits-next : (low : Bool) (S : ℕ) (ws : List ℕ) (at k x r : ℕ) → putBits low S ws at k x (r + 1) ≡ putBit (putBits low S ws at k x r) (at + r * S) k (bitAt x (placeIn low r))
 unfolding putBits
-putBits-next S ws at k x r = rw add-one
+putBits-next low S ws at k x r = rw add-one
 
-pub putBytes-next : (size S : ℕ) (ws : List ℕ) (t : ℕ) (piece : List ℕ) (n : ℕ)
-    → putBytes size S ws t piece (n + 1) ≡ putByte size S (putBytes size S ws t piece n) (t + n) (getD piece n 0)
+pub putBytes-next : (low : Bool) (size S : ℕ) (ws : List ℕ) (t : ℕ) (piece : List ℕ) (n : ℕ)
+    → putBytes low size S ws t piece (n + 1) ≡ putByte low size S (putBytes low size S ws t piece n) (t + n) (getD piece n 0)
 unfolding putBytes
-putBytes-next size S ws t piece n = rw add-one
+putBytes-next low size S ws t piece n = rw add-one
 
 -- ---- the number of words stays
 
@@ -33,19 +33,19 @@ length-putBit : (ws : List ℕ) (i k v : ℕ) → length (putBit ws i k v) ≡ l
 unfolding putBit
 length-putBit ws i k v = length-set ws i _
 
-length-putBits : (S : ℕ) (ws : List ℕ) (at k x r : ℕ) → length (putBits S ws at k x r) ≡ length ws
+length-putBits : (low : Bool) (S : ℕ) (ws : List ℕ) (at k x r : ℕ) → length (putBits low S ws at k x r) ≡ length ws
 unfolding putBits
-length-putBits S ws at k x zero = refl
-length-putBits S ws at k x (suc r) = length-putBit (putBits S ws at k x r) _ _ _ ∙ length-putBits S ws at k x r
+length-putBits low S ws at k x zero = refl
+length-putBits low S ws at k x (suc r) = length-putBit (putBits low S ws at k x r) _ _ _ ∙ length-putBits low S ws at k x r
 
-length-putByte : (size S : ℕ) (ws : List ℕ) (t x : ℕ) → length (putByte size S ws t x) ≡ length ws
+length-putByte : (low : Bool) (size S : ℕ) (ws : List ℕ) (t x : ℕ) → length (putByte low size S ws t x) ≡ length ws
 unfolding putByte
-length-putByte size S ws t x = length-putBits S ws _ _ x 8
+length-putByte low size S ws t x = length-putBits low S ws _ _ x 8
 
-pub length-putBytes : (size S : ℕ) (ws : List ℕ) (t : ℕ) (piece : List ℕ) (n : ℕ) → length (putBytes size S ws t piece n) ≡ length ws
+pub length-putBytes : (low : Bool) (size S : ℕ) (ws : List ℕ) (t : ℕ) (piece : List ℕ) (n : ℕ) → length (putBytes low size S ws t piece n) ≡ length ws
 unfolding putBytes
-length-putBytes size S ws t piece zero = refl
-length-putBytes size S ws t piece (suc n) = length-putByte size S (putBytes size S ws t piece n) _ _ ∙ length-putBytes size S ws t piece n
+length-putBytes low size S ws t piece zero = refl
+length-putBytes low size S ws t piece (suc n) = length-putByte low size S (putBytes low size S ws t piece n) _ _ ∙ length-putBytes low size S ws t piece n
 
 -- ---- where a byte lies
 
@@ -114,22 +114,22 @@ module _ (ws : List ℕ) (i k v : ℕ) (small : v < 2) (inside : i < length ws) 
 
 -- ---- the bits of a byte, S words apart from `at` on
 
-module _ (S : ℕ) (ws : List ℕ) (at k x : ℕ) (inside : at + 7 * S < length ws) where
-  step-inside : (r : ℕ) → r < 8 → at + r * S < length (putBits S ws at k x r)
+module _ (low : Bool) (S : ℕ) (ws : List ℕ) (at k x : ℕ) (inside : at + 7 * S < length ws) where
+  step-inside : (r : ℕ) → r < 8 → at + r * S < length (putBits low S ws at k x r)
   step-inside r h =
       let r≤7 : r ≤ 7 = omega arith in
       rw length-putBits (omega (arith, mul-le-mul-right S r≤7))
 
   putBits-off : (r : ℕ) → r ≤ 8 → (p j : ℕ) → ((q : ℕ) → q < r → p ≡ at + q * S → j ≡ k → ⊥)
-      → bitAt (getD (putBits S ws at k x r) p 0) j ≡ bitAt (getD ws p 0) j
+      → bitAt (getD (putBits low S ws at k x r) p 0) j ≡ bitAt (getD ws p 0) j
   unfolding putBits
   putBits-off zero h p j other = refl
   putBits-off (suc r) h p j other =
-      putBit-off (putBits S ws at k x r) (at + r * S) k _ (bit-lt x (7 - r)) (step-inside r (omega arith)) p j (other r (omega arith))
+      putBit-off (putBits low S ws at k x r) (at + r * S) k _ (bit-lt x (placeIn low r)) (step-inside r (omega arith)) p j (other r (omega arith))
       ∙ putBits-off r (omega arith) p j (λ q l. other q (omega arith))
 
   putBits-at : 0 < S → (r : ℕ) → r ≤ 8 → (q : ℕ) → q < r
-      → bitAt (getD (putBits S ws at k x r) (at + q * S) 0) k ≡ max (bitAt (getD ws (at + q * S) 0) k) (bitAt x (7 - q))
+      → bitAt (getD (putBits low S ws at k x r) (at + q * S) 0) k ≡ max (bitAt (getD ws (at + q * S) 0) k) (bitAt x (placeIn low q))
   unfolding putBits
   putBits-at pos zero h q l = absurd (omega arith)
   putBits-at pos (suc r) h q l = by-turn (ℕ-discrete q r) (putBits-at pos r (omega arith) q)
@@ -137,37 +137,37 @@ module _ (S : ℕ) (ws : List ℕ) (at k x : ℕ) (inside : at + 7 * S < length 
       apart : (m n : ℕ) → m < n → at + m * S ≡ at + n * S → ⊥
       apart m n less e = let f : m * S < n * S = mul-lt-mul-of-pos-right less pos in omega arith
 
-      last : bitAt (getD (putBit (putBits S ws at k x r) (at + r * S) k (bitAt x (7 - r))) (at + r * S) 0) k
-          ≡ max (bitAt (getD ws (at + r * S) 0) k) (bitAt x (7 - r))
+      last : bitAt (getD (putBit (putBits low S ws at k x r) (at + r * S) k (bitAt x (placeIn low r))) (at + r * S) 0) k
+          ≡ max (bitAt (getD ws (at + r * S) 0) k) (bitAt x (placeIn low r))
       last =
-          putBit-at (putBits S ws at k x r) (at + r * S) k _ (bit-lt x (7 - r)) (step-inside r (omega arith))
-          ∙ ap (λ (n : ℕ). max n (bitAt x (7 - r))) (putBits-off r (omega arith) (at + r * S) k (λ m less e z. apart m r less (sym e)))
+          putBit-at (putBits low S ws at k x r) (at + r * S) k _ (bit-lt x (placeIn low r)) (step-inside r (omega arith))
+          ∙ ap (λ (n : ℕ). max n (bitAt x (placeIn low r))) (putBits-off r (omega arith) (at + r * S) k (λ m less e z. apart m r less (sym e)))
 
       by-turn : Dec (q ≡ r)
-          → (q < r → bitAt (getD (putBits S ws at k x r) (at + q * S) 0) k ≡ max (bitAt (getD ws (at + q * S) 0) k) (bitAt x (7 - q)))
-          → bitAt (getD (putBit (putBits S ws at k x r) (at + r * S) k (bitAt x (7 - r))) (at + q * S) 0) k
-          ≡ max (bitAt (getD ws (at + q * S) 0) k) (bitAt x (7 - q))
+          → (q < r → bitAt (getD (putBits low S ws at k x r) (at + q * S) 0) k ≡ max (bitAt (getD ws (at + q * S) 0) k) (bitAt x (placeIn low q)))
+          → bitAt (getD (putBit (putBits low S ws at k x r) (at + r * S) k (bitAt x (placeIn low r))) (at + q * S) 0) k
+          ≡ max (bitAt (getD ws (at + q * S) 0) k) (bitAt x (placeIn low q))
       by-turn (yes e) ih = rw e last
       by-turn (no ne) ih =
           let less : q < r = omega arith in
-          putBit-off (putBits S ws at k x r) (at + r * S) k _ (bit-lt x (7 - r)) (step-inside r (omega arith)) (at + q * S) k (λ e z. apart q r less e)
+          putBit-off (putBits low S ws at k x r) (at + r * S) k _ (bit-lt x (placeIn low r)) (step-inside r (omega arith)) (at + q * S) k (λ e z. apart q r less e)
           ∙ ih less
 
   -- a word past them all stays whole
-  putBits-past : (r : ℕ) → r ≤ 8 → (p : ℕ) → at + 7 * S < p → getD (putBits S ws at k x r) p 0 ≡ getD ws p 0
+  putBits-past : (r : ℕ) → r ≤ 8 → (p : ℕ) → at + 7 * S < p → getD (putBits low S ws at k x r) p 0 ≡ getD ws p 0
   unfolding putBits putBit
   putBits-past zero h p past = refl
   putBits-past (suc r) h p past =
       let r≤7 : r ≤ 7 = omega arith in
       let far : r * S ≤ 7 * S = mul-le-mul-right S r≤7 in
-      getD-set-other (putBits S ws at k x r) (at + r * S) p _ 0 (omega arith) ∙ putBits-past r (omega arith) p past
+      getD-set-other (putBits low S ws at k x r) (at + r * S) p _ 0 (omega arith) ∙ putBits-past r (omega arith) p past
 
 -- ---- one byte of the recording
 
 both : (f : ℕ → ℕ → ℕ) {a b c d : ℕ} → a ≡ b → c ≡ d → f a c ≡ f b d
 both f p q = λ i. f (p i) (q i)
 
-module _ (size S t x : ℕ) (ws : List ℕ) (pos : 0 < size) (inside : t < 64 * S * size) (room : 8 * size * S ≤ length ws) where
+module _ (low : Bool) (size S t x : ℕ) (ws : List ℕ) (pos : 0 < size) (inside : t < 64 * S * size) (room : 8 * size * S ≤ length ws) where
   abbrev at : ℕ
   at = 8 * (t % size) * S + t / size / 64
 
@@ -179,7 +179,7 @@ module _ (size S t x : ℕ) (ws : List ℕ) (pos : 0 < size) (inside : t < 64 * 
   block-in = div-lt-iff-lt-mul pos .1 inside
 
   putByte-at : (e b : ℕ) → b < 8 * size → e * size + b / 8 ≡ t
-      → storedBit S (putByte size S ws t x) e b ≡ max (storedBit S ws e b) (bitAt x (7 - b % 8))
+      → storedBit S (putByte low size S ws t x) e b ≡ max (storedBit S ws e b) (bitAt x (placeIn low (b % 8)))
   unfolding storedBit putByte
   putByte-at e b lb is =
       let short : b / 8 < size = omega arith in
@@ -190,31 +190,31 @@ module _ (size S t x : ℕ) (ws : List ℕ) (pos : 0 < size) (inside : t < 64 * 
       let bit : e % 64 ≡ t / size % 64 = ap (λ (n : ℕ). n % 64) e-is in
       let turn : b % 8 < 8 = omega arith in
       let S>0 : 0 < S = omega (arith, block-in) in
-      both (λ p j. bitAt (getD (putByte size S ws t x) p 0) j) word bit
-      ∙ putBits-at S ws at (t / size % 64) x (placed size S t (length ws) pos inside room .last) S>0 8 (le-refl 8) (b % 8) turn
-      ∙ sym (both (λ p j. max (bitAt (getD ws p 0) j) (bitAt x (7 - b % 8))) word bit)
+      both (λ p j. bitAt (getD (putByte low size S ws t x) p 0) j) word bit
+      ∙ putBits-at low S ws at (t / size % 64) x (placed size S t (length ws) pos inside room .last) S>0 8 (le-refl 8) (b % 8) turn
+      ∙ sym (both (λ p j. max (bitAt (getD ws p 0) j) (bitAt x (placeIn low (b % 8)))) word bit)
 
-  putByte-off : (e b : ℕ) → e < 64 * S → (e * size + b / 8 ≡ t → ⊥) → storedBit S (putByte size S ws t x) e b ≡ storedBit S ws e b
+  putByte-off : (e b : ℕ) → e < 64 * S → (e * size + b / 8 ≡ t → ⊥) → storedBit S (putByte low size S ws t x) e b ≡ storedBit S ws e b
   unfolding storedBit putByte
   putByte-off e b le other =
-      putBits-off S ws at (t / size % 64) x (placed size S t (length ws) pos inside room .last) 8 (le-refl 8) (b * S + e / 64) (e % 64) clash
+      putBits-off low S ws at (t / size % 64) x (placed size S t (length ws) pos inside room .last) 8 (le-refl 8) (b * S + e / 64) (e % 64) clash
     where
       clash : (q : ℕ) → q < 8 → b * S + e / 64 ≡ at + q * S → e % 64 ≡ t / size % 64 → ⊥
       clash q turn word bit =
-          let low : e / 64 < S = omega arith in
-          let low′ : t / size / 64 < S = omega (arith, block-in) in
+          let lane : e / 64 < S = omega arith in
+          let lane′ : t / size / 64 < S = omega (arith, block-in) in
           let same : b * S + e / 64 ≡ (8 * (t % size) + q) * S + t / size / 64 = word ∙ sym (row q) in
-          let b-is : b ≡ 8 * (t % size) + q = sym (digits-div b low) ∙ ap (λ (n : ℕ). n / S) same ∙ digits-div (8 * (t % size) + q) low′ in
-          let h-is : e / 64 ≡ t / size / 64 = sym (digits-mod b low) ∙ ap (λ (n : ℕ). n % S) same ∙ digits-mod (8 * (t % size) + q) low′ in
+          let b-is : b ≡ 8 * (t % size) + q = sym (digits-div b lane) ∙ ap (λ (n : ℕ). n / S) same ∙ digits-div (8 * (t % size) + q) lane′ in
+          let h-is : e / 64 ≡ t / size / 64 = sym (digits-mod b lane) ∙ ap (λ (n : ℕ). n % S) same ∙ digits-mod (8 * (t % size) + q) lane′ in
           let e-is : e ≡ t / size = omega arith in
           let j-is : b / 8 ≡ t % size = omega arith in
           other (both (λ m n. m * size + n) e-is j-is ∙ div-add-mod' t size)
 
-  putByte-past : (p : ℕ) → 8 * size * S ≤ p → getD (putByte size S ws t x) p 0 ≡ getD ws p 0
+  putByte-past : (p : ℕ) → 8 * size * S ≤ p → getD (putByte low size S ws t x) p 0 ≡ getD ws p 0
   unfolding putByte
   putByte-past p past =
       let under = placed size S t (8 * size * S) pos inside (le-refl _) .last in
-      putBits-past S ws at (t / size % 64) x (placed size S t (length ws) pos inside room .last) 8 (le-refl 8) p (omega (arith, under))
+      putBits-past low S ws at (t / size % 64) x (placed size S t (length ws) pos inside room .last) 8 (le-refl 8) p (omega (arith, under))
 
 -- ---- a piece
 
@@ -230,15 +230,15 @@ getD-snoc-off held x m other = by-order (decLt m (length held))
         List·getD-eq-default (held ++ (x ∷ [])) 0 past′ ∙ sym (List·getD-eq-default held 0 past)
 
 -- nothing arrives with an empty piece
-arriving-none : (size t e b : ℕ) → arrivingBit size t [] e b ≡ 0
+arriving-none : (low : Bool) (size t e b : ℕ) → arrivingBit low size t [] e b ≡ 0
 unfolding arrivingBit
-arriving-none size t e b = by-test (leb t (e * size + b / 8))
+arriving-none low size t e b = by-test (leb t (e * size + b / 8))
   where
-    by-test : (c : Bool) → cond c (bitAt 0 (7 - b % 8)) 0 ≡ 0
-    by-test true = bit-zero (7 - b % 8)
+    by-test : (c : Bool) → cond c (bitAt 0 (placeIn low (b % 8))) 0 ≡ 0
+    by-test true = bit-zero (placeIn low (b % 8))
     by-test false = refl
 
-module _ (size t : ℕ) (piece : List ℕ) (n : ℕ) (more : n < length piece) (e b : ℕ) where
+module _ (low : Bool) (size t : ℕ) (piece : List ℕ) (n : ℕ) (more : n < length piece) (e b : ℕ) where
   abbrev byte : ℕ
   byte = e * size + b / 8
 
@@ -247,7 +247,7 @@ module _ (size t : ℕ) (piece : List ℕ) (n : ℕ) (more : n < length piece) (
 
   -- the bit of the next byte was not among those before it
   arriving-at : byte ≡ t + n
-      → (arrivingBit size t (take n piece) e b ≡ 0) × (arrivingBit size t (take (suc n) piece) e b ≡ bitAt (getD piece n 0) (7 - b % 8))
+      → (arrivingBit low size t (take n piece) e b ≡ 0) × (arrivingBit low size t (take (suc n) piece) e b ≡ bitAt (getD piece n 0) (placeIn low (b % 8)))
   unfolding arrivingBit
   arriving-at is =
       let come : leb t byte ≡ true = le-leb t byte (omega arith) in
@@ -257,15 +257,15 @@ module _ (size t : ℕ) (piece : List ℕ) (n : ℕ) (more : n < length piece) (
       ap (λ (l : List ℕ). getD l n 0) (take-suc piece n 0 more)
       ∙ ap (λ (m : ℕ). getD (take n piece ++ (getD piece n 0 ∷ [])) m 0) (sym size-take)
       ∙ getD-append-seam (take n piece) (getD piece n 0) [] 0 in (
-        rw (come, nth, none) (bit-zero (7 - b % 8)),
+        rw (come, nth, none) (bit-zero (placeIn low (b % 8))),
         rw (come, nth, last),
       )
 
-  arriving-off : (byte ≡ t + n → ⊥) → arrivingBit size t (take (suc n) piece) e b ≡ arrivingBit size t (take n piece) e b
+  arriving-off : (byte ≡ t + n → ⊥) → arrivingBit low size t (take (suc n) piece) e b ≡ arrivingBit low size t (take n piece) e b
   unfolding arrivingBit
   arriving-off other = by-come (decLt byte t)
     where
-      by-come : Dec (byte < t) → arrivingBit size t (take (suc n) piece) e b ≡ arrivingBit size t (take n piece) e b
+      by-come : Dec (byte < t) → arrivingBit low size t (take (suc n) piece) e b ≡ arrivingBit low size t (take n piece) e b
       by-come (yes early) = let none : leb t byte ≡ false = lt-leb t byte early in rw none
       by-come (no late) =
           let off : byte - t ≡ length (take n piece) → ⊥ = λ z. other (let h : byte ≡ t + n = omega (arith, size-take) in h) in
@@ -273,37 +273,37 @@ module _ (size t : ℕ) (piece : List ℕ) (n : ℕ) (more : n < length piece) (
           ap (λ (l : List ℕ). getD l (byte - t) 0) (take-suc piece n 0 more) ∙ getD-snoc-off (take n piece) (getD piece n 0) (byte - t) off in
           rw same
 
-module _ (size S t : ℕ) (ws piece : List ℕ) (pos : 0 < size) (room : 8 * size * S ≤ length ws) (fits : t + length piece ≤ 64 * S * size) where
-  enough : (n : ℕ) → 8 * size * S ≤ length (putBytes size S ws t piece n)
+module _ (low : Bool) (size S t : ℕ) (ws piece : List ℕ) (pos : 0 < size) (room : 8 * size * S ≤ length ws) (fits : t + length piece ≤ 64 * S * size) where
+  enough : (n : ℕ) → 8 * size * S ≤ length (putBytes low size S ws t piece n)
   enough n = rw length-putBytes room
 
   pub stored-after : (n : ℕ) → n ≤ length piece → (e b : ℕ) → e < 64 * S → b < 8 * size
-      → storedBit S (putBytes size S ws t piece n) e b ≡ max (storedBit S ws e b) (arrivingBit size t (take n piece) e b)
+      → storedBit S (putBytes low size S ws t piece n) e b ≡ max (storedBit S ws e b) (arrivingBit low size t (take n piece) e b)
   unfolding putBytes
-  stored-after zero h e b le lb = omega (arith, arriving-none size t e b)
+  stored-after zero h e b le lb = omega (arith, arriving-none low size t e b)
   stored-after (suc n) h e b le lb = by-place (ℕ-discrete (e * size + b / 8) (t + n)) (stored-after n (omega arith) e b le lb)
     where
       by-place : Dec (e * size + b / 8 ≡ t + n)
-          → storedBit S (putBytes size S ws t piece n) e b ≡ max (storedBit S ws e b) (arrivingBit size t (take n piece) e b)
-          → storedBit S (putByte size S (putBytes size S ws t piece n) (t + n) (getD piece n 0)) e b
-          ≡ max (storedBit S ws e b) (arrivingBit size t (take (suc n) piece) e b)
+          → storedBit S (putBytes low size S ws t piece n) e b ≡ max (storedBit S ws e b) (arrivingBit low size t (take n piece) e b)
+          → storedBit S (putByte low size S (putBytes low size S ws t piece n) (t + n) (getD piece n 0)) e b
+          ≡ max (storedBit S ws e b) (arrivingBit low size t (take (suc n) piece) e b)
       by-place (yes here) was =
-          let new = arriving-at size t piece n (omega arith) e b here in
+          let new = arriving-at low size t piece n (omega arith) e b here in
           omega (
             arith,
-            putByte-at size S (t + n) (getD piece n 0) (putBytes size S ws t piece n) pos (omega arith) (enough n) e b lb here,
+            putByte-at low size S (t + n) (getD piece n 0) (putBytes low size S ws t piece n) pos (omega arith) (enough n) e b lb here,
             was,
             new .0,
             new .1,
           )
       by-place (no other) was =
-          putByte-off size S (t + n) (getD piece n 0) (putBytes size S ws t piece n) pos (omega arith) (enough n) e b le other
+          putByte-off low size S (t + n) (getD piece n 0) (putBytes low size S ws t piece n) pos (omega arith) (enough n) e b le other
           ∙ was
-          ∙ ap (max (storedBit S ws e b)) (sym (arriving-off size t piece n (omega arith) e b other))
+          ∙ ap (max (storedBit S ws e b)) (sym (arriving-off low size t piece n (omega arith) e b other))
 
-  pub past-after : (n : ℕ) → n ≤ length piece → (p : ℕ) → 8 * size * S ≤ p → getD (putBytes size S ws t piece n) p 0 ≡ getD ws p 0
+  pub past-after : (n : ℕ) → n ≤ length piece → (p : ℕ) → 8 * size * S ≤ p → getD (putBytes low size S ws t piece n) p 0 ≡ getD ws p 0
   unfolding putBytes
   past-after zero h p past = refl
   past-after (suc n) h p past =
-      putByte-past size S (t + n) (getD piece n 0) (putBytes size S ws t piece n) pos (omega arith) (enough n) p past
+      putByte-past low size S (t + n) (getD piece n 0) (putBytes low size S ws t piece n) pos (omega arith) (enough n) p past
       ∙ past-after n (omega arith) p past

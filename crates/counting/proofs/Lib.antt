@@ -2,6 +2,7 @@ pub mod Lanes
 pub mod Filling
 pub mod Accepted
 pub mod Recorded
+pub mod Reversing
 pub mod Counts
 pub mod Marks
 pub mod Tallying

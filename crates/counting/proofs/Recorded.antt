@@ -10,7 +10,7 @@ use lib.Dec.{leb, eqb}
 use lib.ListN.{length, getD, drop, replicate, length-append, length-replicate, getD-replicate, List·getD-append, List·getD-eq-default}
 use lib.Seq.{take-length, getD-take, getD-drop, getD-append-add}
 use borrow.Author.Tests.{eq-eqb, eqb-true, le-leb, lt-leb}
-use Rattle.counting.specs.Block.{bitAt, blockBit, validSize}
+use Rattle.counting.specs.Block.{bitAt, placeIn, blockBit, validSize}
 use Rattle.counting.specs.Recording.{blockBytes, stride, capacityBytes, pieceRefusal, heldAfter, heldFrom, refusalsFrom, recording, recordedBit}
 use Rattle.counting.specs.Words.{putBytes, storedBit, arrivingBit}
 use Rattle.counting.specs.Sampling.{startedOf, startedWords, samplerRefusal, feedRefusal, fedOf, fedWords, FeedFills}
@@ -53,20 +53,20 @@ module _ (s : Sampler) (ws piece : List ℕ) (free : feedRefusal s (length ws) (
   all-rows : 8 * size ≡ B
   all-rows = omega (arith, valid)
 
-  fed-is : fedWords s ws piece ≡ putBytes size S ws (s .taken) piece (length piece)
+  fed-is : fedWords s ws piece ≡ putBytes (s .«low_first») size S ws (s .taken) piece (length piece)
   unfolding fedWords
   fed-is = simp free
 
   fills-bits : (p j : ℕ) → p < B * S → j < 64
-      → bitAt (getD (fedWords s ws piece) p 0) j ≡ max (bitAt (getD ws p 0) j) (arrivingBit size (s .taken) piece (64 * (p % S) + j) (p / S))
+      → bitAt (getD (fedWords s ws piece) p 0) j ≡ max (bitAt (getD ws p 0) j) (arrivingBit (s .«low_first») size (s .taken) piece (64 * (p % S) + j) (p / S))
   fills-bits p j hp hj =
       let S>0 : 0 < S = by-zero S refl in
       let row : p / S < B = div-lt-iff-lt-mul S>0 .1 hp in
       let lane : p % S < S = mod-lt p S>0 in
       ap (λ (l : List ℕ). bitAt (getD l p 0) j) fed-is
-      ∙ sym (place S p j (putBytes size S ws (s .taken) piece (length piece)) hj)
-      ∙ stored-after size S (s .taken) ws piece (omega (arith, valid)) (room-words B (length ws) valid) fits (length piece) (le-refl _) (64 * (p % S) + j) (p / S) (omega arith) (omega (arith, all-rows))
-      ∙ (λ i. max (place S p j ws hj i) (arrivingBit size (s .taken) (take-length piece i) (64 * (p % S) + j) (p / S)))
+      ∙ sym (place S p j (putBytes (s .«low_first») size S ws (s .taken) piece (length piece)) hj)
+      ∙ stored-after (s .«low_first») size S (s .taken) ws piece (omega (arith, valid)) (room-words B (length ws) valid) fits (length piece) (le-refl _) (64 * (p % S) + j) (p / S) (omega arith) (omega (arith, all-rows))
+      ∙ (λ i. max (place S p j ws hj i) (arrivingBit (s .«low_first») size (s .taken) (take-length piece i) (64 * (p % S) + j) (p / S)))
     where
       by-zero : (n : ℕ) → n ≡ S → 0 < n
       by-zero zero e = absurd (let h : p < B * 0 = rw e hp in omega arith)
@@ -75,7 +75,7 @@ module _ (s : Sampler) (ws piece : List ℕ) (free : feedRefusal s (length ws) (
   fills-rest : (p : ℕ) → B * S ≤ p → getD (fedWords s ws piece) p 0 ≡ getD ws p 0
   fills-rest p past =
       ap (λ (l : List ℕ). getD l p 0) fed-is
-      ∙ past-after size S (s .taken) ws piece (omega (arith, valid)) (room-words B (length ws) valid) fits (length piece) (le-refl _) p (rw all-rows past)
+      ∙ past-after (s .«low_first») size S (s .taken) ws piece (omega (arith, valid)) (room-words B (length ws) valid) fits (length piece) (le-refl _) p (rw all-rows past)
 
 pub feed-fills : FeedFills
 feed-fills s ws piece free = record { bits = fills-bits s ws piece free; rest = fills-rest s ws piece free }
@@ -83,19 +83,19 @@ feed-fills s ws piece free = record { bits = fills-bits s ws piece free; rest = 
 -- ---- theorem 2: the words hold the recording
 
 -- bit b of block e of the bytes held, 0 past them
-unfoldable heldBit : ℕ → List ℕ → ℕ → ℕ → ℕ
-heldBit size held e b = bitAt (getD held (e * size + b / 8) 0) (7 - b % 8)
+unfoldable heldBit : Bool → ℕ → List ℕ → ℕ → ℕ → ℕ
+heldBit low size held e b = bitAt (getD held (e * size + b / 8) 0) (placeIn low (b % 8))
 
 -- what arrives is the part of the longer recording that the shorter has not
-held-more : (size : ℕ) (held piece : List ℕ) (e b : ℕ)
-    → heldBit size (held ++ piece) e b ≡ max (heldBit size held e b) (arrivingBit size (length held) piece e b)
+held-more : (low : Bool) (size : ℕ) (held piece : List ℕ) (e b : ℕ)
+    → heldBit low size (held ++ piece) e b ≡ max (heldBit low size held e b) (arrivingBit low size (length held) piece e b)
 unfolding heldBit arrivingBit
-held-more size held piece e b = by-order (decLt (e * size + b / 8) (length held))
+held-more low size held piece e b = by-order (decLt (e * size + b / 8) (length held))
   where
     byte : ℕ
     byte = e * size + b / 8
 
-    by-order : Dec (byte < length held) → heldBit size (held ++ piece) e b ≡ max (heldBit size held e b) (arrivingBit size (length held) piece e b)
+    by-order : Dec (byte < length held) → heldBit low size (held ++ piece) e b ≡ max (heldBit low size held e b) (arrivingBit low size (length held) piece e b)
     by-order (yes below) =
         let early : leb (length held) byte ≡ false = lt-leb (length held) byte below in
         let same : getD (held ++ piece) byte 0 ≡ getD held byte 0 = List·getD-append held piece 0 byte below in
@@ -107,17 +107,17 @@ held-more size held piece e b = by-order (decLt (e * size + b / 8) (length held)
         let is : byte ≡ length held + (byte - length held) = omega arith in
         let new : getD (held ++ piece) byte 0 ≡ getD piece (byte - length held) 0 =
         ap (λ (m : ℕ). getD (held ++ piece) m 0) is ∙ getD-append-add held piece (byte - length held) 0 in
-        rw (late, new, none) (omega (arith, bit-zero (7 - b % 8)))
+        rw (late, new, none) (omega (arith, bit-zero (placeIn low (b % 8))))
 
-abbrev sampler-of : ℕ → ℕ → ℕ → Sampler
-sampler-of B n taken = record { «block_size» = B; words = n; taken = taken }
+abbrev sampler-of : ℕ → Bool → ℕ → ℕ → Sampler
+sampler-of B low n taken = record { «block_size» = B; words = n; taken = taken; «low_first» = low }
 
 -- the state is that of the bytes held, every lane of a row included
-record Told (B n : ℕ) (st : State) (held : List ℕ) : Type 0 where
-  sampler : st .sampler ≡ sampler-of B n (length held)
+record Told (B : ℕ) (low : Bool) (n : ℕ) (st : State) (held : List ℕ) : Type 0 where
+  sampler : st .sampler ≡ sampler-of B low n (length held)
   lent : length (st .words) ≡ n
   within : length held ≤ capacityBytes B n
-  bits : (e b : ℕ) → e < 64 * stride B n → b < 8 * blockBytes B → storedBit (stride B n) (st .words) e b ≡ heldBit (blockBytes B) held e b
+  bits : (e b : ℕ) → e < 64 * stride B n → b < 8 * blockBytes B → storedBit (stride B n) (st .words) e b ≡ heldBit low (blockBytes B) held e b
 
 -- a word that was cleared, or none, has no bit
 cleared-bit : (n p j : ℕ) → bitAt (getD (replicate n 0) p 0) j ≡ 0
@@ -129,43 +129,43 @@ cleared-bit n p j = ap (λ (w : ℕ). bitAt w j) (by-place (decLt p n)) ∙ bit-
         let past : length (replicate {A = ℕ} n 0) ≤ p = rw length-replicate (omega arith) in
         List·getD-eq-default (replicate n 0) 0 past
 
-module _ (B n : ℕ) (ok : validSize B ≡ true) where
-  told-start : (ws : List ℕ) → length ws ≡ n → Told B n (started B ws) []
+module _ (B : ℕ) (low : Bool) (n : ℕ) (ok : validSize B ≡ true) where
+  told-start : (ws : List ℕ) → length ws ≡ n → Told B low n (started B low ws) []
   unfolding started startedOf startedWords storedBit heldBit
   told-start ws len = simp (ok, len) (record {
     sampler = refl;
     lent = length-replicate n 0;
     within = zero-le;
-    bits = λ e b le lb. cleared-bit n (b * stride B n + e / 64) (e % 64) ∙ sym (bit-zero (7 - b % 8));
+    bits = λ e b le lb. cleared-bit n (b * stride B n + e / 64) (e % 64) ∙ sym (bit-zero (placeIn low (b % 8)));
   })
 
   -- the sampler of a recording is refused nothing but a piece that is too long
   refusal-is : (held piece : List ℕ) → length held ≤ capacityBytes B n
-      → feedRefusal (sampler-of B n (length held)) n (length piece) ≡ pieceRefusal B n held piece
+      → feedRefusal (sampler-of B low n (length held)) n (length piece) ≡ pieceRefusal B n held piece
   unfolding feedRefusal samplerRefusal pieceRefusal
   refusal-is held piece within = simp (ok, eq-eqb n n refl, le-leb _ _ within)
 
   -- what a feed answers is the recording's refusal
-  answer-is : (st : State) (held piece : List ℕ) → Told B n st held
+  answer-is : (st : State) (held piece : List ℕ) → Told B low n st held
       → fedOf (st .sampler) (length (st .words)) (length piece) .refusal ≡ pieceRefusal B n held piece
   unfolding fedOf
   answer-is st held piece T = rw (T .sampler, T .lent) (by-test (eqb r 0) refl ∙ refusal-is held piece (T .within))
     where
       r : ℕ
-      r = feedRefusal (sampler-of B n (length held)) n (length piece)
+      r = feedRefusal (sampler-of B low n (length held)) n (length piece)
 
-      by-test : (t : Bool) → eqb r 0 ≡ t → fedOf (sampler-of B n (length held)) n (length piece) .refusal ≡ r
+      by-test : (t : Bool) → eqb r 0 ≡ t → fedOf (sampler-of B low n (length held)) n (length piece) .refusal ≡ r
       by-test true e = rw e (sym (eqb-true r 0 e))
       by-test false e = rw e
 
   -- one feed, of a state by its parts
-  told-parts : (ws held piece : List ℕ) → Told B n (record { sampler = sampler-of B n (length held); words = ws }) held
-      → Told B n (fed (record { sampler = sampler-of B n (length held); words = ws }) piece) (heldAfter B n held piece)
+  told-parts : (ws held piece : List ℕ) → Told B low n (record { sampler = sampler-of B low n (length held); words = ws }) held
+      → Told B low n (fed (record { sampler = sampler-of B low n (length held); words = ws }) piece) (heldAfter B n held piece)
   unfolding fed fedOf fedWords heldAfter pieceRefusal
   told-parts ws held piece T = by-room (decLt (capacityBytes B n) (length held + length piece))
     where
       by-room : Dec (capacityBytes B n < length held + length piece)
-          → Told B n (fed (record { sampler = sampler-of B n (length held); words = ws }) piece) (heldAfter B n held piece)
+          → Told B low n (fed (record { sampler = sampler-of B low n (length held); words = ws }) piece) (heldAfter B n held piece)
       by-room (yes over) = simp (T .lent, refusal-is held piece (T .within), lt-leb _ _ over) T
       by-room (no not-over) =
           let fits : length held + length piece ≤ capacityBytes B n = omega arith in
@@ -173,26 +173,26 @@ module _ (B n : ℕ) (ok : validSize B ≡ true) where
           let lent : length ws ≡ n = T .lent in
           let size>0 : 0 < blockBytes B = omega (arith, v) in
           let room : 8 * blockBytes B * stride B n ≤ length ws = rw lent (room-words B n v) in
-          let put = putBytes (blockBytes B) (stride B n) ws (length held) piece (length piece) in
-          let bits : (e b : ℕ) → e < 64 * stride B n → b < 8 * blockBytes B → storedBit (stride B n) put e b ≡ heldBit (blockBytes B) (held ++ piece) e b =
+          let put = putBytes low (blockBytes B) (stride B n) ws (length held) piece (length piece) in
+          let bits : (e b : ℕ) → e < 64 * stride B n → b < 8 * blockBytes B → storedBit (stride B n) put e b ≡ heldBit low (blockBytes B) (held ++ piece) e b =
           λ e b le lb.
-          stored-after (blockBytes B) (stride B n) (length held) ws piece size>0 room (le-trans fits (room-bytes B n)) (length piece) (le-refl _) e b le lb
-          ∙ (λ i. max (T .bits e b le lb i) (arrivingBit (blockBytes B) (length held) (take-length piece i) e b))
-          ∙ sym (held-more (blockBytes B) held piece e b) in
+          stored-after low (blockBytes B) (stride B n) (length held) ws piece size>0 room (le-trans fits (room-bytes B n)) (length piece) (le-refl _) e b le lb
+          ∙ (λ i. max (T .bits e b le lb i) (arrivingBit low (blockBytes B) (length held) (take-length piece i) e b))
+          ∙ sym (held-more low (blockBytes B) held piece e b) in
           simp (lent, refusal-is held piece (T .within), le-leb _ _ fits) (record {
-            sampler = ap (sampler-of B n) (sym (length-append held piece));
-            lent = length-putBytes (blockBytes B) (stride B n) ws (length held) piece (length piece) ∙ lent;
+            sampler = ap (sampler-of B low n) (sym (length-append held piece));
+            lent = length-putBytes low (blockBytes B) (stride B n) ws (length held) piece (length piece) ∙ lent;
             within = rw length-append fits;
             bits = bits;
           })
 
-  told-fed : (st : State) (held piece : List ℕ) → Told B n st held → Told B n (fed st piece) (heldAfter B n held piece)
+  told-fed : (st : State) (held piece : List ℕ) → Told B low n st held → Told B low n (fed st piece) (heldAfter B n held piece)
   told-fed st held piece T =
-      let same : st ≡ record { sampler = sampler-of B n (length held); words = st .words } = λ i. record { sampler = T .sampler i; words = st .words } in
+      let same : st ≡ record { sampler = sampler-of B low n (length held); words = st .words } = λ i. record { sampler = T .sampler i; words = st .words } in
       rw same (told-parts (st .words) held piece (record { sampler = refl; lent = T .lent; within = T .within; bits = T .bits }))
 
-  told-all : (st : State) (held : List ℕ) (pieces : List (List ℕ)) → Told B n st held
-      → (answersFrom st pieces ≡ refusalsFrom B n held pieces) × Told B n (fedAll st pieces) (heldFrom B n held pieces)
+  told-all : (st : State) (held : List ℕ) (pieces : List (List ℕ)) → Told B low n st held
+      → (answersFrom st pieces ≡ refusalsFrom B n held pieces) × Told B low n (fedAll st pieces) (heldFrom B n held pieces)
   unfolding answersFrom refusalsFrom fedAll heldFrom
   told-all st held [] T = (refl, T)
   told-all st held (p ∷ ps) T =
@@ -200,7 +200,7 @@ module _ (B n : ℕ) (ok : validSize B ≡ true) where
       (λ i. answer-is st held p T i ∷ rest .0 i, rest .1)
 
   -- of the whole blocks, what is stored is the recording's
-  told-holds : (st : State) (held : List ℕ) → Told B n st held → HoldsRecording B n st held
+  told-holds : (st : State) (held : List ℕ) → Told B low n st held → HoldsRecording B low n st held
   unfolding recordedBit blockBit heldBit
   told-holds st held T = record {
     sampler = T .sampler;
@@ -208,16 +208,16 @@ module _ (B n : ℕ) (ok : validSize B ≡ true) where
     within = T .within;
     stored = λ e b le lb.
         let v = valid-facts B ok in
-        let low : b / 8 < B / 8 = omega (arith, v) in
+        let within : b / 8 < B / 8 = omega (arith, v) in
         let lanes : length held / blockBytes B ≤ 64 * stride B n = le-trans (room-blocks B n (length held) v (T .within)) (min-le-left _ _) in
         T .bits e b (omega arith) (omega (arith, v))
-        ∙ ap (λ (x : ℕ). bitAt x (7 - b % 8)) (sym (getD-take (B / 8) (drop (e * (B / 8)) held) (b / 8) 0 low ∙ getD-drop (e * (B / 8)) held (b / 8) 0));
+        ∙ ap (λ (x : ℕ). bitAt x (placeIn low (b % 8))) (sym (getD-take (B / 8) (drop (e * (B / 8)) held) (b / 8) 0 within ∙ getD-drop (e * (B / 8)) held (b / 8) 0));
   }
 
 pub all-recorded : AllRecorded
-all-recorded B ws ok pieces =
-    let T = told-all B (length ws) ok (started B ws) [] pieces (told-start B (length ws) ok ws refl) in
-    record { answers = T .0; holds = told-holds B (length ws) ok (fedAll (started B ws) pieces) (recording B (length ws) pieces) (T .1) }
+all-recorded B low ws ok pieces =
+    let T = told-all B low (length ws) ok (started B low ws) [] pieces (told-start B low (length ws) ok ws refl) in
+    record { answers = T .0; holds = told-holds B low (length ws) ok (fedAll (started B low ws) pieces) (recording B (length ws) pieces) (T .1) }
 
 -- ---- one feed more, at the end
 

@@ -13,9 +13,13 @@ validSize B = cond (eqb (B % 8) 0) (cond (leb 8 B) (leb B 4096) false) false
 abbrev pub bitAt : ℕ → ℕ → ℕ
 bitAt w j = w / 2 ^ j % 2
 
--- bit b of a block: bit 7 − (b mod 8) of its byte floor(b / 8) (`bit_value_in_block`)
-unfoldable pub blockBit : List ℕ → ℕ → ℕ
-blockBit block b = bitAt (getD block (b / 8) 0) (7 - b % 8)
+-- which bit of a byte is the r-th of its 8 bits: bit r where the low bit comes first, else bit 7 − r
+unfoldable pub placeIn : Bool → ℕ → ℕ
+placeIn low r = cond low r (7 - r)
+
+-- bit b of a block: the (b mod 8)-th bit of its byte floor(b / 8) (`bit_value_in_block`)
+unfoldable pub blockBit : Bool → List ℕ → ℕ → ℕ
+blockBit low block b = bitAt (getD block (b / 8) 0) (placeIn low (b % 8))
 
 -- the bin of a block whose bit b is `bit b`: the sum of 2 ^ i over the i whose bits[i] is 1 (`bits_block_eval`)
 unfoldable pub binOf : (ℕ → ℕ) → List ℕ → ℕ

@@ -1,6 +1,6 @@
--- The plain recording of the rules: it is fed B, the number of lent words and the pieces, and nothing of the sampler or its words.
+-- The plain recording of the rules: it is fed B, the bit order, the number of lent words and the pieces, and nothing of the sampler or its words.
 use Prim.Native.Nat.{ℕ, _+_, _*_, _/_, min}
-use mathlib.Core.Bool.{cond}
+use mathlib.Core.Bool.{Bool, cond}
 use mathlib.Core.List.{List, [], _∷_, _++_}
 use lib.Dec.{leb}
 use lib.ListN.{length, take, drop}
@@ -48,6 +48,6 @@ recording B words pieces = heldFrom B words [] pieces
 abbrev pub blocksIn : ℕ → List ℕ → ℕ
 blocksIn B held = length held / blockBytes B
 
--- bit b of block e, the B / 8 bytes from byte e × B / 8 on
-unfoldable pub recordedBit : ℕ → List ℕ → ℕ → ℕ → ℕ
-recordedBit B held e b = blockBit (take (blockBytes B) (drop (e * blockBytes B) held)) b
+-- bit b of block e, the B / 8 bytes from byte e × B / 8 on, in the bit order
+unfoldable pub recordedBit : ℕ → Bool → List ℕ → ℕ → ℕ → ℕ
+recordedBit B low held e b = blockBit low (take (blockBytes B) (drop (e * blockBytes B) held)) b

@@ -21,7 +21,7 @@ markedIn lane bit bits n v = sumTo (λ e. min (lane e) (same (binOf (bit e) bits
 abbrev pub from : ℕ → ℕ → ℕ
 from skip e = cond (leb skip e) 1 0
 
--- of the lanes of acc those from `skip` on are marked
+-- of the lanes of acc those from `skip` on are marked, and no others
 abbrev pub MarkedFrom : ℕ → List ℕ → Type 0
 MarkedFrom skip acc = (e : ℕ) → e < 64 * length acc → laneOf (wordAt acc) e ≡ from skip e
 

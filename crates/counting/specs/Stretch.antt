@@ -1,7 +1,7 @@
 -- A stretch of the blocks that the words hold: those from block `first` to before block `end`.
 use Prim.Native.Nat.{ℕ, _-_, _*_, _≤_}
 use mathlib.Core.Path.{_≡_}
-use mathlib.Core.Bool.{true, cond}
+use mathlib.Core.Bool.{Bool, true, cond}
 use mathlib.Core.List.{List}
 use lib.Dec.{leb}
 use lib.ListN.{take, drop}
@@ -35,12 +35,12 @@ abbrev pub stretchBytes : ℕ → List ℕ → ℕ → ℕ → List ℕ
 stretchBytes B held first end = take ((end - first) * blockBytes B) (drop (first * blockBytes B) held)
 
 -- Theorem: a recording that holds these bytes alone has just the blocks of the stretch.
-pub record Alone (B : ℕ) (held : List ℕ) (first end : ℕ) : Type 0 where
+pub record Alone (B : ℕ) (low : Bool) (held : List ℕ) (first end : ℕ) : Type 0 where
   pub blocks : blocksIn B (stretchBytes B held first end) ≡ end - first
-  pub bits : AgreeBelow (end - first) B (onward first (recordedBit B held)) (recordedBit B (stretchBytes B held first end))
+  pub bits : AgreeBelow (end - first) B (onward first (recordedBit B low held)) (recordedBit B low (stretchBytes B held first end))
 
 abbrev pub StretchesAlone : Type 0
-StretchesAlone = (B : ℕ) (held : List ℕ) (first end : ℕ) → validSize B ≡ true → first ≤ end → end ≤ blocksIn B held → Alone B held first end
+StretchesAlone = (B : ℕ) (low : Bool) (held : List ℕ) (first end : ℕ) → validSize B ≡ true → first ≤ end → end ≤ blocksIn B held → Alone B low held first end
 
 -- it does not end before it begins, its blocks are among those that a row can hold, and their number fits a count
 abbrev pub Within : Stretch → Type 0

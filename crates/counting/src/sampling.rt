@@ -5,13 +5,15 @@ ghost use lib.ListN.{length, replicate};
 ghost use Rattle.counting.specs.Recording.{capacityBytes};
 ghost use Rattle.counting.specs.Words.{putBit, putBits, putBytes};
 ghost use Rattle.counting.specs.Sampling.{startedOf, startedWords, blocksOf, samplerRefusal, feedRefusal, fedOf, fedWords};
+use crate::block::place_in;
 use crate::block::valid_block_size;
 
-// A recording in progress: the block size in bits, how many words are lent, and the bytes taken so far (T).
+// A recording in progress: the block size in bits, how many words are lent, the bytes taken so far (T), and whether the low bit of a byte comes first.
 pub struct Sampler {
     pub block_size: usize,
     pub words: usize,
     pub taken: usize,
+    pub low_first: bool,
 }
 
 // What start answers: a refusal, 0 where there is none, and the fresh sampler.
@@ -26,9 +28,9 @@ pub struct Fed {
     pub sampler: Sampler,
 }
 
-// Clears the words for a new recording of blocks of block_size bits. Refusal 1.
-pub fn start(block_size: usize, words: &mut [u64]) -> Started
-    ensures { λ r. ⌜ r ≡ startedOf «block_size» (length (now (words .entry))) ⌝ }
+// Clears the words for a new recording of blocks of block_size bits, in the given bit order. Refusal 1.
+pub fn start(block_size: usize, low_first: bool, words: &mut [u64]) -> Started
+    ensures { λ r. ⌜ r ≡ startedOf «block_size» «low_first» (length (now (words .entry))) ⌝ }
     ensures { λ _. ⌜ now (words .exit) ≡ startedWords «block_size» (now (words .entry)) ⌝ }
 {
     if !valid_block_size(block_size) {
@@ -38,6 +40,7 @@ pub fn start(block_size: usize, words: &mut [u64]) -> Started
                 block_size: 0,
                 words: 0,
                 taken: 0,
+                low_first: false,
             },
         };
     }
@@ -48,6 +51,7 @@ pub fn start(block_size: usize, words: &mut [u64]) -> Started
             block_size,
             words: words.len(),
             taken: 0,
+            low_first,
         },
     }
 }
@@ -63,12 +67,14 @@ pub fn feed(sampler: Sampler, words: &mut [u64], piece: &[u8]) -> Fed
     }
     let block_size = sampler.block_size;
     let taken = sampler.taken;
+    let low_first = sampler.low_first;
     put_bytes(
         words,
         block_size / 8,
         words.len() / block_size,
         taken,
         piece,
+        low_first,
     );
     Fed {
         refusal: 0,
@@ -76,6 +82,7 @@ pub fn feed(sampler: Sampler, words: &mut [u64], piece: &[u8]) -> Fed
             block_size,
             words: sampler.words,
             taken: taken + piece.len(),
+            low_first,
         },
     }
 }
@@ -144,11 +151,18 @@ pub struct Place {
 
 // Puts the piece's bytes in as bytes taken, taken + 1, .. of the recording; size is the bytes of a block, stride the words of a row.
 // The place goes from byte to byte, so that no byte costs a division.
-fn put_bytes(words: &mut [u64], size: usize, stride: usize, taken: usize, piece: &[u8])
+fn put_bytes(
+    words: &mut [u64],
+    size: usize,
+    stride: usize,
+    taken: usize,
+    piece: &[u8],
+    low_first: bool,
+)
     requires { ⌜ 0 < size ⌝ }
     requires { ⌜ 8 * size * stride ≤ length (now words) ⌝ }
     requires { ⌜ taken + length (now piece) ≤ 64 * stride * size ⌝ }
-    ensures { λ _. ⌜ now (words .exit) ≡ putBytes size stride (now (words .entry)) taken (now (piece .entry)) (length (now (piece .entry))) ⌝ }
+    ensures { λ _. ⌜ now (words .exit) ≡ putBytes «low_first» size stride (now (words .entry)) taken (now (piece .entry)) (length (now (piece .entry))) ⌝ }
 {
     let mut place = Place {
         block: taken / size,
@@ -163,6 +177,7 @@ fn put_bytes(words: &mut [u64], size: usize, stride: usize, taken: usize, piece:
             stride,
             e % 64,
             piece[n],
+            low_first,
         );
         place = next_place(place, size);
         n += 1;
@@ -188,16 +203,16 @@ fn next_place(place: Place, size: usize) -> Place
     }
 }
 
-// Puts the byte's bits, the highest first, into bit k of the words at, at + stride, ..
-fn put_byte(words: &mut [u64], at: usize, stride: usize, k: usize, x: u8)
+// Puts the byte's bits, in the bit order, into bit k of the words at, at + stride, ..
+fn put_byte(words: &mut [u64], at: usize, stride: usize, k: usize, x: u8, low_first: bool)
     requires { ⌜ at + 7 * stride < length (now words) ⌝ }
     requires { ⌜ k < 64 ⌝ }
-    ensures { λ _. ⌜ now (words .exit) ≡ putBits stride (now (words .entry)) at k x 8 ⌝ }
+    ensures { λ _. ⌜ now (words .exit) ≡ putBits «low_first» stride (now (words .entry)) at k x 8 ⌝ }
 {
     let mut i = at;
     let mut r: usize = 0;
     while r < 8 {
-        let v = (x >> (7 - r)) % 2;
+        let v = (x >> place_in(low_first, r)) % 2;
         put_bit(words, i, k, v as u64);
         i += stride;
         r += 1;

@@ -1,4 +1,4 @@
-// Cases of single blocks: the number of bytes, the bytes, the number of bits, the bits.
+// Cases of single blocks: the bit order, 1 where the low bit comes first; the number of bytes, the bytes, the number of bits, the bits.
 // Answer: each bit's value, then the bin.
 ghost use Prim.Native.Nat.{_≤_};
 ghost use lib.ListN.{length};
@@ -28,29 +28,30 @@ pub fn replay(text: &[u8], at: usize) -> usize {
 
 fn replay_one(text: &[u8], at: usize) -> usize {
     let mut block = [0u8; 512];
-    let size = number(text, at);
+    let order = number(text, at);
+    let size = number(text, order.at);
     let length = at_most(size.value, 512);
-    replay_block(text, size.at, &mut block[..length])
+    replay_block(text, size.at, order.value == 1, &mut block[..length])
 }
 
 // Reads the block, then its bits.
-fn replay_block(text: &[u8], at: usize, block: &mut [u8]) -> usize {
+fn replay_block(text: &[u8], at: usize, low_first: bool, block: &mut [u8]) -> usize {
     let mut bits = [0u32; 20];
     let width = number(text, bytes(text, at, block));
     let k = at_most(width.value, 20);
-    replay_bits(text, width.at, block, &mut bits[..k])
+    replay_bits(text, width.at, low_first, block, &mut bits[..k])
 }
 
-fn replay_bits(text: &[u8], at: usize, block: &[u8], bits: &mut [u32]) -> usize
+fn replay_bits(text: &[u8], at: usize, low_first: bool, block: &[u8], bits: &mut [u32]) -> usize
     requires { ⌜ length (now bits) ≤ 20 ⌝ }
 {
     let after = numbers(text, at, bits);
-    answer(bits, block);
+    answer(bits, low_first, block);
     after
 }
 
 // Prints 99 alone where a bit lies outside the block.
-fn answer(bits: &[u32], block: &[u8])
+fn answer(bits: &[u32], low_first: bool, block: &[u8])
     requires { ⌜ length (now bits) ≤ 20 ⌝ }
 {
     if !in_block(bits, block.len()) {
@@ -58,17 +59,17 @@ fn answer(bits: &[u32], block: &[u8])
         end_line();
         return;
     }
-    print_values(bits, block);
-    print(bits_block_eval(bits, block) as u64);
+    print_values(bits, low_first, block);
+    print(bits_block_eval(bits, low_first, block) as u64);
     end_line();
 }
 
-fn print_values(bits: &[u32], block: &[u8])
+fn print_values(bits: &[u32], low_first: bool, block: &[u8])
     requires { ⌜ InBlock (now bits) (length (now block)) ⌝ }
 {
     let mut i = 0;
     while i < bits.len() {
-        print(bit_value_in_block(place(bits[i]), block) as u64);
+        print(bit_value_in_block(place(bits[i]), low_first, block) as u64);
         i += 1;
     }
 }

@@ -13,10 +13,10 @@ fn main() {
 }
 
 // For the whole of standard input.
-fn room() -> [u8; 327680]
-    ensures { λ r. ⌜ 327680 ≡ length r ⌝ }
+fn room() -> [u8; 524288]
+    ensures { λ r. ⌜ 524288 ≡ length r ⌝ }
 {
-    [0; 327680]
+    [0; 524288]
 }
 
 // All cases of a text: first those of single blocks, then those of samplers.

@@ -1,7 +1,8 @@
-// Cases of samplers: B and the number of lent words; the number of pieces, for each its length and its bytes; where start is not refused, the number of
-// subsets, for each the first block and the end of a stretch, its width and its bits.
-// Answer: a line with start's refusal and, for each feed, its refusal and the bytes taken after it. Where start is not refused: a line with n; a line for
-// each row, as far as it holds blocks below n; a line for each subset with the counts of its bins over the stretch and, once more, of its all-ones bin.
+// Cases of samplers: B, the bit order, 1 where the low bit comes first, and the number of lent words; the number of pieces, for each its length and its
+// bytes; where start is not refused, the number of subsets, for each the first block and the end of a stretch, its width and its bits.
+// Answer: a line with start's refusal, for each feed its refusal and the bytes taken after it, and the last sampler's bit order. Where start is not refused: a
+// line with n; a line for each row, as far as it holds blocks below n; a line for each subset with the counts of its bins over the stretch and, once more, of
+// its all-ones bin.
 ghost use mathlib.Core.Path.{_≡_};
 ghost use Prim.Native.Nat.{_^_, _≤_};
 ghost use lib.ListN.{length};
@@ -37,18 +38,26 @@ pub fn replay(text: &[u8], at: usize) {
 fn replay_one(text: &[u8], at: usize) -> usize {
     let mut words = dirty();
     let size = number(text, at);
-    let lent = number(text, size.at);
+    let order = number(text, size.at);
+    let lent = number(text, order.at);
     let count = at_most(lent.value, 8192);
     replay_with(
         text,
         lent.at,
         at_most(size.value, 1000000),
+        order.value == 1,
         &mut words[..count],
     )
 }
 
-fn replay_with(text: &[u8], at: usize, block_size: usize, words: &mut [u64]) -> usize {
-    let recorded = record(text, at, block_size, words);
+fn replay_with(
+    text: &[u8],
+    at: usize,
+    block_size: usize,
+    low_first: bool,
+    words: &mut [u64],
+) -> usize {
+    let recorded = record(text, at, block_size, low_first, words);
     if recorded.refusal != 0 {
         return recorded.at;
     }

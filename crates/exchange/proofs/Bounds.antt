@@ -14,7 +14,7 @@ use Rattle.subsets.specs.Bits.{validWidth}
 use Rattle.searching.specs.declared.finding.Finding.{Finding}
 use Rattle.judging.specs.Check.{chosen}
 use Rattle.judging.proofs.Checking.{chosen-length}
-use Rattle.exchange.specs.Grammar.{Exchanged, ascii, Word, word, Separated, last, further, Entry, entry, Array, empty, full, Seen, seen, Member, has-bits, has-indices, has-division, has-block, has-score, Text, text}
+use Rattle.exchange.specs.Grammar.{Exchanged, ascii, Word, word, Separated, last, further, Entry, entry, Array, empty, full, Seen, seen, Member, has-bits, has-indices, has-division, has-block, has-low, has-score, Text, text}
 use Rattle.exchange.specs.Writer.{decimal, listed, Writable}
 use Rattle.exchange.specs.Exchange.{exchangedOf, findingText}
 use Rattle.exchange.specs.Length.{longestText, TextFits, IndicesFit}
@@ -22,7 +22,7 @@ use Rattle.exchange.proofs.Numbers.{whole-first}
 use Rattle.exchange.proofs.Objects.{token-long, text-sound}
 use Rattle.exchange.proofs.Figures.{digits-most}
 use Rattle.exchange.proofs.Commas.{listed-most}
-use Rattle.exchange.proofs.Pieces.{length-text}
+use Rattle.exchange.proofs.Pieces.{length-text, truth-most}
 use Rattle.exchange.proofs.Acceptance.{accepted}
 
 -- ---- digits of the numbers below 2 ^ k
@@ -50,7 +50,7 @@ bin-digits k n low high h = let bins = tested-at 20 k refl low high in digits-mo
 
 -- ---- the length of a text
 
-pub longest-is : (k : ℕ) → 1 ≤ k → k ≤ 20 → longestText k ≡ 63 + 5 * k + (2 ^ k + 1) * (2 + 3 * k / 10)
+pub longest-is : (k : ℕ) → 1 ≤ k → k ≤ 20 → longestText k ≡ 81 + 5 * k + (2 ^ k + 1) * (2 + 3 * k / 10)
 unfolding longestText validWidth
 longest-is k low high = rw (le-leb 1 k low, le-leb k 20 high)
 
@@ -75,7 +75,7 @@ writable-fits f order size w =
     let all : (2 ^ k + 1) * (2 + 3 * k / 10) ≡ 2 ^ k * (2 + 3 * k / 10) + (2 + 3 * k / 10) = add-mul (2 ^ k) 1 (2 + 3 * k / 10) ∙ ap (λ (m : ℕ). 2 ^ k * (2 + 3 * k / 10) + m) (one-mul (2 + 3 * k / 10)) in
     let block : length (decimal (f .«block_size»)) ≤ 4 = small (f .«block_size») (omega (arith, w .block)) in
     let division : length (decimal (f .division)) ≤ d = bin-digits k (f .division) (w .some) (w .width) (w .division) in
-    omega (arith, longest-is k (w .some) (w .width), length-text (exchangedOf f order))
+    omega (arith, longest-is k (w .some) (w .width), length-text (exchangedOf f order), truth-most (f .«low_first»))
 
 pub text-fits : TextFits
 text-fits f order scratch size e = writable-fits f order size (accepted f order scratch e)
@@ -104,13 +104,14 @@ listedCount none = 0
 listedCount (some ns) = length ns
 
 abbrev indexCount : Seen → ℕ
-indexCount (seen x i d b z) = listedCount i
+indexCount (seen x i d b l z) = listedCount i
 
 member-long : {st st′ : Seen} {a : List ℕ} → Member st a st′ → 2 * indexCount st′ ≤ 2 * indexCount st + length a
 member-long (has-bits k v) = omega arith
 member-long (has-indices {a} {s} k v) = omega (arith, length-append a s, array-long v)
 member-long (has-division k v) = omega arith
 member-long (has-block k v) = omega arith
+member-long (has-low k v) = omega arith
 member-long (has-score k v) = omega arith
 
 members-long : {st st′ : Seen} {b : List ℕ} → Separated Member (ascii "}") st b st′ → 2 * indexCount st′ ≤ 2 * indexCount st + length b

@@ -7,12 +7,13 @@ use Prim.Native.Nat.{ℕ, _≤_, _<_}
 use native.Mathlib.Omega.{arith}
 use lib.ListN.{length, drop, length-append, length-drop}
 use Rattle.exchange.specs.Grammar.{ascii, Seen}
-use Rattle.exchange.specs.Reader.{Read, readToken, readArray, readWord, skipScore, readKey, readValue, readMember, readSeparated, nothingSeen}
+use Rattle.exchange.specs.Reader.{Read, readToken, readTruth, readArray, readWord, skipScore, readKey, readValue, readMember, readSeparated, nothingSeen}
 use Rattle.exchange.specs.Cursor.{ArrayIs, Counts, Sized, numbersIn, seenIn}
 use Rattle.exchange.specs.declared.arrays.ArrayAt.{ArrayAt}
 use Rattle.exchange.specs.declared.words.WordAt.{WordAt}
+use Rattle.exchange.specs.declared.truth.TruthAt.{TruthAt}
 use Rattle.exchange.specs.declared.keys.Name.{Name}
-use Rattle.exchange.specs.declared.keys.Name.the-variants.{Bits, SortedIndices, BestDivision, BlockSize, ZScore}
+use Rattle.exchange.specs.declared.keys.Name.the-variants.{Bits, SortedIndices, BestDivision, BlockSize, LowFirst, ZScore}
 use Rattle.exchange.specs.declared.members.Found.{Found}
 use Rattle.exchange.proofs.Getting.{clash, array-got}
 use Rattle.exchange.proofs.Tokens.{token-sound}
@@ -31,19 +32,22 @@ array-kept s at r h is ok =
 -- ---- what was found, with one value more
 
 abbrev pub withBits : Found → ArrayAt → Found
-withBits f r = record { bits = r; indices = f .indices; division = f .division; «block_size» = f .«block_size»; scored = f .scored }
+withBits f r = record { bits = r; indices = f .indices; division = f .division; «block_size» = f .«block_size»; «low_first» = f .«low_first»; scored = f .scored }
 
 abbrev pub withIndices : Found → ArrayAt → Found
-withIndices f r = record { bits = f .bits; indices = r; division = f .division; «block_size» = f .«block_size»; scored = f .scored }
+withIndices f r = record { bits = f .bits; indices = r; division = f .division; «block_size» = f .«block_size»; «low_first» = f .«low_first»; scored = f .scored }
 
 abbrev pub withDivision : Found → WordAt → Found
-withDivision f r = record { bits = f .bits; indices = f .indices; division = r; «block_size» = f .«block_size»; scored = f .scored }
+withDivision f r = record { bits = f .bits; indices = f .indices; division = r; «block_size» = f .«block_size»; «low_first» = f .«low_first»; scored = f .scored }
 
 abbrev pub withBlock : Found → WordAt → Found
-withBlock f r = record { bits = f .bits; indices = f .indices; division = f .division; «block_size» = r; scored = f .scored }
+withBlock f r = record { bits = f .bits; indices = f .indices; division = f .division; «block_size» = r; «low_first» = f .«low_first»; scored = f .scored }
+
+abbrev pub withLow : Found → TruthAt → Found
+withLow f r = record { bits = f .bits; indices = f .indices; division = f .division; «block_size» = f .«block_size»; «low_first» = r; scored = f .scored }
 
 abbrev pub withScore : Found → Found
-withScore f = record { bits = f .bits; indices = f .indices; division = f .division; «block_size» = f .«block_size»; scored = true }
+withScore f = record { bits = f .bits; indices = f .indices; division = f .division; «block_size» = f .«block_size»; «low_first» = f .«low_first»; scored = true }
 
 -- ---- the value of each key: there before, not read, read
 
@@ -100,6 +104,19 @@ module _ (s : List ℕ) (f : Found) (t : List ℕ) where
   unfolding readValue
   block-first e r u h ok = rw (e, h, ok)
 
+  pub low-again : f .«low_first» .ok ≡ true → readValue LowFirst (seenIn s f) t ≡ none
+  unfolding readValue
+  low-again e = rw e
+
+  pub low-none : f .«low_first» .ok ≡ false → readTruth t ≡ none → readValue LowFirst (seenIn s f) t ≡ none
+  unfolding readValue
+  low-none e h = rw (e, h)
+
+  pub low-first : f .«low_first» .ok ≡ false → (r : TruthAt) (u : List ℕ) → readTruth t ≡ some (r .value, u) → r .ok ≡ true
+      → readValue LowFirst (seenIn s f) t ≡ some (seenIn s (withLow f r), u)
+  unfolding readValue
+  low-first e r u h ok = rw (e, h, ok)
+
   pub score-again : f .scored ≡ true → readValue ZScore (seenIn s f) t ≡ none
   unfolding readValue
   score-again e = rw e
@@ -155,5 +172,5 @@ module _ (s : List ℕ) (f : Found) (a : f .bits .ok ≡ false) (b : f .indices 
   pub nothing-sized : Sized s f
   nothing-sized = record { bits = λ e. clash (f .bits .ok) e a; indices = λ e. clash (f .indices .ok) e b }
 
-  pub nothing-held : f .division .ok ≡ false → f .«block_size» .ok ≡ false → f .scored ≡ false → seenIn s f ≡ nothingSeen
-  nothing-held c d e = rw (a, b, c, d, e)
+  pub nothing-held : f .division .ok ≡ false → f .«block_size» .ok ≡ false → f .«low_first» .ok ≡ false → f .scored ≡ false → seenIn s f ≡ nothingSeen
+  nothing-held c d e g = rw (a, b, c, d, e, g)

@@ -5,9 +5,9 @@ use mathlib.Core.List.{List}
 use mathlib.Core.Option.{Option, none, some}
 use Prim.Native.Nat.{ℕ, _≤_, _<_}
 use lib.ListN.{length, drop}
-use Rattle.exchange.specs.Grammar.{Exchanged, ascii, Seen, seen}
+use Rattle.exchange.specs.Grammar.{Exchanged, ascii, Seen, seen, lowOf}
 use Rattle.exchange.specs.Reader.{skip, readToken, readMember, readSeparated, nothingSeen, isEmpty, whole, readText}
-use Rattle.exchange.specs.Cursor.{Got, numbersIn, seenIn, Sized, Says}
+use Rattle.exchange.specs.Cursor.{Got, numbersIn, truthHeld, seenIn, Sized, Says}
 use Rattle.exchange.specs.declared.members.Found.{Found}
 use Rattle.exchange.proofs.Tokens.{both}
 use Rattle.exchange.proofs.Stepping.{next, none-left}
@@ -58,14 +58,14 @@ module _ (b i d k : Bool) where
   pub fourth-left : b ≡ true → i ≡ true → d ≡ true → k ≡ (b && i && d && k)
   fourth-left p q r = rw (p, q, r)
 
-module _ (x y : List ℕ) (m n : ℕ) (z : Bool) where
+module _ (x y : List ℕ) (m n : ℕ) (l : Option Bool) (z : Bool) where
   abbrev flagged : Bool → Bool → Bool → Bool → Seen
-  flagged b i d k = seen (cond b (some x) none) (cond i (some y) none) (cond d (some m) none) (cond k (some n) none) z
+  flagged b i d k = seen (cond b (some x) none) (cond i (some y) none) (cond d (some m) none) (cond k (some n) none) l z
 
   whole-all : (b i d k : Bool) → b ≡ true → i ≡ true → d ≡ true → k ≡ true
-      → whole (flagged b i d k) ≡ some (record { bits = x; indices = y; division = m; block = n })
+      → whole (flagged b i d k) ≡ some (record { bits = x; indices = y; division = m; block = n; lowFirst = lowOf l })
   unfolding whole
-  whole-all b i d k p q r l = rw (p, q, r, l)
+  whole-all b i d k p q r t = rw (p, q, r, t)
 
   whole-none : (b i d k : Bool) → (b && i && d && k) ≡ false → whole (flagged b i d k) ≡ none
   unfolding whole
@@ -81,11 +81,11 @@ text-says s f true o e z q =
     let three = both (f .bits .ok && f .indices .ok && f .division .ok) (f .«block_size» .ok) (sym e) in
     let two = both (f .bits .ok && f .indices .ok) (f .division .ok) (three .0) in
     let one = both (f .bits .ok) (f .indices .ok) (two .0) in
-    let all = whole-all (numbersIn (drop (f .bits .from) s)) (numbersIn (drop (f .indices .from) s)) (f .division .value) (f .«block_size» .value) (f .scored)
+    let all = whole-all (numbersIn (drop (f .bits .from) s)) (numbersIn (drop (f .indices .from) s)) (f .division .value) (f .«block_size» .value) (truthHeld (f .«low_first»)) (f .scored)
     (f .bits .ok) (f .indices .ok) (f .division .ok) (f .«block_size» .ok) (one .0) (one .1) (two .1) (three .1) in
     got-some true o (λ x. Says s f x) _ (q ∙ all) refl
-    (record { bits = (z .bits (one .0), refl); indices = (z .indices (one .1), refl); division = refl; block = refl })
+    (record { bits = (z .bits (one .0), refl); indices = (z .indices (one .1), refl); division = refl; block = refl; low = refl })
 text-says s f false o e z q =
-    let nothing = whole-none (numbersIn (drop (f .bits .from) s)) (numbersIn (drop (f .indices .from) s)) (f .division .value) (f .«block_size» .value) (f .scored)
+    let nothing = whole-none (numbersIn (drop (f .bits .from) s)) (numbersIn (drop (f .indices .from) s)) (f .division .value) (f .«block_size» .value) (truthHeld (f .«low_first»)) (f .scored)
     (f .bits .ok) (f .indices .ok) (f .division .ok) (f .«block_size» .ok) (sym e) in
     got-none false o (λ x. Says s f x) (q ∙ nothing) refl

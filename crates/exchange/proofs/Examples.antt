@@ -5,6 +5,7 @@ use Rattle.exchange.specs.Reader.{
   skip,
   readExactly,
   readToken,
+  readTruth,
   readDigits,
   readWhole,
   skipDigits,
@@ -29,12 +30,16 @@ use Rattle.exchange.specs.Writer.{digitsOf, decimal, behind, listed, tex
 use Rattle.exchange.specs.Examples.{TextExamples}
 
 pub text-examples : TextExamples
-unfolding isSpace isDigit isExp skip readExactly readToken readDigits readWhole skipDigits skipMinus skipSign skipFraction skipExponent skipNumber skipScore readWord readTurns readEntry readArray readName readKey readValue readMember whole readText digitsOf decimal behind listed textOf
+unfolding isSpace isDigit isExp skip readExactly readToken readTruth readDigits readWhole skipDigits skipMinus skipSign skipFraction skipExponent skipNumber skipScore readWord readTurns readEntry readArray readName readKey readValue readMember whole readText digitsOf decimal behind listed textOf
 text-examples =
     record {
       written = refl;
       spaced = refl;
       empties = refl;
+      high = refl;
+      lows = refl;
+      one = refl;
+      capitals = refl;
       missing = refl;
       twice = refl;
       scores = refl;

@@ -58,7 +58,7 @@ bare-of f order h size =
     let n : length (chosen f) ≡ f .width = chosen-length f h size in
     let most : length (chosen f) ≤ 20 = omega arith in
     let bits : padded (take 20 (chosen f)) ≡ padded (chosen f) = ap padded (take-all 20 (chosen f) most) in
-    λ i. record { «block_size» = f .«block_size»; width = n i; bits = bits i; division = f .division; z = zeroScore }
+    λ i. record { «block_size» = f .«block_size»; width = n i; bits = bits i; division = f .division; z = zeroScore; «low_first» = f .«low_first» }
 
 -- the check does not see the score and the entries past the width
 bare-accepted : (f : Finding) (order : List ℕ) (scratch scratch₂ : ℕ) → length (f .bits) ≡ 20 → checkRefusal f order scratch ≡ 0 → 2 ^ f .width ≤ scratch₂
@@ -116,7 +116,7 @@ evaluated-checked f order bytes scratch e =
     let r = neither (blocksRefusal (testingBlocks f bytes)) (scratchRefusal (f .width) scratch) (q .1) in
     rw (q .0, r .1, p .1)
 
-module _ (B : ℕ) (held : List ℕ) (first end k : ℕ) (f : Finding) (bins order : List ℕ) (best : BestIn B held first end k f bins order)
+module _ (B : ℕ) (low : Bool) (held : List ℕ) (first end k : ℕ) (f : Finding) (bins order : List ℕ) (best : BestIn B low held first end k f bins order)
     (agrees : (scratch : ℕ) → 2 ^ k ≤ scratch → Agrees B (stretchBytes B held first end) k f bins order scratch) where
   abbrev order′ : List ℕ
   order′ = take (2 ^ k) order
@@ -136,7 +136,7 @@ module _ (B : ℕ) (held : List ℕ) (first end k : ℕ) (f : Finding) (bins ord
   whole : bare f ≡ scoreless f
   whole =
       let bits : padded (chosen f) ≡ f .bits = ap (λ (w : ℕ). padded (take w (f .bits))) (best .width) ∙ sym (best .zeros) in
-      λ i. record { «block_size» = f .«block_size»; width = f .width; bits = bits i; division = f .division; z = zeroScore }
+      λ i. record { «block_size» = f .«block_size»; width = f .width; bits = bits i; division = f .division; z = zeroScore; «low_first» = f .«low_first» }
 
   passes : Passes k f order′
   passes =
@@ -152,14 +152,14 @@ module _ (B : ℕ) (held : List ℕ) (first end k : ℕ) (f : Finding) (bins ord
       }
 
 pub searches-exchange : SearchesExchange
-searches-exchange B ws pieces answers s ws′ acquired =
-    let claim = claims B ws pieces answers s ws′ acquired in
-    let agree = all-agree B ws pieces answers s ws′ acquired in
+searches-exchange B low ws pieces answers s ws′ acquired =
+    let claim = claims B low ws pieces answers s ws′ acquired in
+    let agree = all-agree B low ws pieces answers s ws′ acquired in
     let held = recording B (length ws) pieces in
     record {
       direct = λ first end k bins order r bins′ order′ S z.
-          passes B held first end k (r .finding) bins′ order′ (claim .direct first end k bins order r bins′ order′ S .best z) (agree .direct first end k bins order r bins′ order′ S z);
+          passes B low held first end k (r .finding) bins′ order′ (claim .direct first end k bins order r bins′ order′ S .best z) (agree .direct first end k bins order r bins′ order′ S z);
       layered = λ first end k lower upper bins order r lower′ upper′ bins′ order′ S z.
-          passes B held first end k (r .finding) bins′ order′ (claim .layered first end k lower upper bins order r lower′ upper′ bins′ order′ S .best z)
+          passes B low held first end k (r .finding) bins′ order′ (claim .layered first end k lower upper bins order r lower′ upper′ bins′ order′ S .best z)
           (agree .layered first end k lower upper bins order r lower′ upper′ bins′ order′ S z);
     }

@@ -8,9 +8,10 @@ use native.Mathlib.Omega.{arith}
 use lib.ListN.{length, drop}
 use Rattle.exchange.specs.Grammar.{Seen}
 use Rattle.exchange.specs.Reader.{Read}
-use Rattle.exchange.specs.Cursor.{Got, PlaceIs, WordIs, CountIs, ArrayIs, KeyIs, MembersAre, seenIn, Sized}
+use Rattle.exchange.specs.Cursor.{Got, PlaceIs, WordIs, TruthIs, CountIs, ArrayIs, KeyIs, MembersAre, seenIn, Sized}
 use Rattle.exchange.specs.declared.cursor.Place.{Place}
 use Rattle.exchange.specs.declared.words.WordAt.{WordAt}
+use Rattle.exchange.specs.declared.truth.TruthAt.{TruthAt}
 use Rattle.exchange.specs.declared.arrays.Counted.{Counted}
 use Rattle.exchange.specs.declared.arrays.ArrayAt.{ArrayAt}
 use Rattle.exchange.specs.declared.keys.Name.{Name}
@@ -42,6 +43,10 @@ place-got s (some t) r h e = (ap some (sym (h .1 .left)), h .1 .within)
 pub word-got : (s : List ℕ) (o : Read ℕ) (r : WordAt) → WordIs s o r → r .ok ≡ true → (o ≡ some (r .value, drop (r .at) s)) × (r .at ≤ length s)
 word-got s none r h e = clash (r .ok) e h
 word-got s (some p) r h e = (λ i. some (sym (h .1 .0) i, sym (h .1 .1 .left) i), h .1 .1 .within)
+
+pub truth-got : (s : List ℕ) (o : Read Bool) (r : TruthAt) → TruthIs s o r → r .ok ≡ true → (o ≡ some (r .value, drop (r .at) s)) × (r .at ≤ length s)
+truth-got s none r h e = clash (r .ok) e h
+truth-got s (some p) r h e = (λ i. some (sym (h .1 .0) i, sym (h .1 .1 .left) i), h .1 .1 .within)
 
 pub key-got : (s : List ℕ) (o : Read Name) (r : KeyAt) → KeyIs s o r → r .ok ≡ true → (o ≡ some (r .name, drop (r .at) s)) × (r .at ≤ length s)
 key-got s none r h e = clash (r .ok) e h
@@ -79,6 +84,9 @@ place-is s o r e h l = rw e (h, record { within = l; left = refl })
 
 pub word-is : (s : List ℕ) (o : Read ℕ) (r : WordAt) → o ≡ some (r .value, drop (r .at) s) → r .ok ≡ true → r .at ≤ length s → WordIs s o r
 word-is s o r e h l = rw e (h, (refl, record { within = l; left = refl }))
+
+pub truth-is : (s : List ℕ) (o : Read Bool) (r : TruthAt) → o ≡ some (r .value, drop (r .at) s) → r .ok ≡ true → r .at ≤ length s → TruthIs s o r
+truth-is s o r e h l = rw e (h, (refl, record { within = l; left = refl }))
 
 pub key-is : (s : List ℕ) (o : Read Name) (r : KeyAt) → o ≡ some (r .name, drop (r .at) s) → r .ok ≡ true → r .at ≤ length s → KeyIs s o r
 key-is s o r e h l = rw e (h, (refl, record { within = l; left = refl }))

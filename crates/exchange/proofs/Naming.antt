@@ -1,4 +1,4 @@
--- Laws of keys: what the tokens that are tried in turn make of the key that is read.
+-- Laws of keys, and of true and false: what the tokens that are tried in turn make of what is read.
 use mathlib.Core.Path.{_≡_, refl, sym, ap}
 use mathlib.Core.Bool.{true, false}
 use mathlib.Core.List.{List, [], _∷_}
@@ -6,10 +6,11 @@ use mathlib.Core.Option.{none, some}
 use Prim.Native.Nat.{ℕ}
 use native.Mathlib.Omega.{arith}
 use lib.ListN.{drop}
-use Rattle.exchange.specs.Grammar.{ascii}
-use Rattle.exchange.specs.Reader.{readToken, quoted, names, readName, readKey}
-use Rattle.exchange.specs.Cursor.{PlaceIs, KeyIs}
+use Rattle.exchange.specs.Grammar.{ascii, lowOf}
+use Rattle.exchange.specs.Reader.{readToken, readTruth, quoted, names, readName, readKey}
+use Rattle.exchange.specs.Cursor.{PlaceIs, KeyIs, truthHeld}
 use Rattle.exchange.specs.declared.cursor.Place.{Place}
+use Rattle.exchange.specs.declared.truth.TruthAt.{TruthAt}
 use Rattle.exchange.specs.declared.keys.Name.{Name}
 use Rattle.exchange.specs.declared.keys.KeyAt.{KeyAt}
 use Rattle.exchange.proofs.Getting.{not-got, place-got, key-is}
@@ -31,6 +32,30 @@ module _ (s : List ℕ) (at : ℕ) (x : Name) (xs : List Name) (p : Place) (h : 
       let read : readName (x ∷ xs) (drop at s) ≡ some (r .name, drop (r .at) s) =
       rw (g .0) (λ i. some (sym (ap (λ (k : KeyAt). k .name) q) i, drop (sym same i) s)) in
       key-is s (readName (x ∷ xs) (drop at s)) r read (ap (λ (k : KeyAt). k .ok) q) (omega (arith, g .1))
+
+-- ---- true and false
+
+module _ (s : List ℕ) where
+  pub truth-false : (t : List ℕ) → readToken (ascii "false") s ≡ some t → readTruth s ≡ some (false, t)
+  unfolding readTruth
+  truth-false t e = rw e
+
+  module _ (missed : readToken (ascii "false") s ≡ none) where
+    pub truth-true : (t : List ℕ) → readToken (ascii "true") s ≡ some t → readTruth s ≡ some (true, t)
+    unfolding readTruth
+    truth-true t e = rw (missed, e)
+
+    pub truth-none : readToken (ascii "true") s ≡ none → readTruth s ≡ none
+    unfolding readTruth
+    truth-none e = rw (missed, e)
+
+-- false where it was not read
+module _ (r : TruthAt) where
+  pub low-absent : r .ok ≡ false → false ≡ lowOf (truthHeld r)
+  low-absent e = rw e
+
+  pub low-there : r .ok ≡ true → r .value ≡ lowOf (truthHeld r)
+  low-there e = rw e
 
 -- ---- a key and its colon
 

@@ -1,6 +1,6 @@
 -- Laws of arrays, members and texts: what is read is in the grammar, and what is in the grammar is read.
 use mathlib.Core.Path.{_≡_, refl, sym, subst, _∙_}
-use mathlib.Core.Bool.{true, false}
+use mathlib.Core.Bool.{Bool, true, false}
 use mathlib.Core.List.{List, [], _∷_, _++_, append-assoc, append-nil}
 use mathlib.Core.Option.{none, some}
 use Prim.Native.Nat.{ℕ, zero, suc, _+_, _≤_}
@@ -15,6 +15,9 @@ use Rattle.exchange.specs.Grammar.{
   Ws,
   Token,
   token,
+  Truth,
+  is-false,
+  is-true,
   Word,
   Score,
   Separated,
@@ -34,6 +37,7 @@ use Rattle.exchange.specs.Grammar.{
   has-indices,
   has-division,
   has-block,
+  has-low,
   has-score,
   Text,
   text,
@@ -45,6 +49,7 @@ use Rattle.exchange.specs.Reader.{
   skip,
   readExactly,
   readToken,
+  readTruth,
   readWord,
   skipScore,
   readTurns,
@@ -63,7 +68,7 @@ use Rattle.exchange.specs.Reader.{
   readText,
 }
 use Rattle.exchange.specs.declared.keys.Name.{Name}
-use Rattle.exchange.specs.declared.keys.Name.the-variants.{Bits, SortedIndices, BestDivision, BlockSize, ZScore}
+use Rattle.exchange.specs.declared.keys.Name.the-variants.{Bits, SortedIndices, BestDivision, BlockSize, LowFirst, ZScore}
 use Rattle.exchange.proofs.Tokens.{Split, Splits, joined, kept, none-some, some-same, bound, chosen, passed, skip-ws, skipped, token-sound, token-is}
 use Rattle.exchange.proofs.Numbers.{Clear, before, token-clear, word-sound, word-complete, word-no-end, score-sound, score-complete}
 
@@ -139,6 +144,22 @@ array-complete (full {a} {b} {ns} x m) t =
     rw (append-assoc a b t, token-is x (ascii "[") (b ++ t), entries-no-end m t)
     (turns-complete Entry readEntry (ascii "]") entry-complete (omega arith) (λ u. refl) (λ u. refl) bracket-clear (length (b ++ t)) m t all)
 
+-- ---- true and false
+
+truth-sound : (s : List ℕ) (r : Bool × List ℕ) → readTruth s ≡ some r → Splits s r Truth
+unfolding readTruth
+truth-sound s r e =
+    chosen (readToken (ascii "false") s) _ _ e
+    (λ t x y. let (a, p, w) = token-sound (ascii "false") s t x in kept Truth y (a, p, is-false w))
+    (λ y.
+    bound (readToken (ascii "true") s) _ y (λ t z v.
+    let (a, p, w) = token-sound (ascii "true") s t z in kept Truth v (a, p, is-true w)))
+
+truth-complete : {a : List ℕ} {v : Bool} → Truth a v → (t : List ℕ) → readTruth (a ++ t) ≡ some (v, t)
+unfolding readTruth readExactly skip isSpace
+truth-complete (is-false x) t = simp (token-is x)
+truth-complete (is-true x) t = simp (token-is x)
+
 -- ---- members
 
 name-sound : (xs : List Name) (s : List ℕ) (r : Name × List ℕ) → readName xs s ≡ some r → Splits s r (λ a x. Token (quoted x) a)
@@ -153,6 +174,7 @@ name-complete Bits a k t = simp (token-is k)
 name-complete SortedIndices a k t = simp (token-is k)
 name-complete BestDivision a k t = simp (token-is k)
 name-complete BlockSize a k t = simp (token-is k)
+name-complete LowFirst a k t = simp (token-is k)
 name-complete ZScore a k t = simp (token-is k)
 
 -- what a value makes of the members before it, behind its key
@@ -161,21 +183,24 @@ Valued x st b st′ = (a : List ℕ) → Key (quoted x) a → Member st (a ++ b)
 
 value-sound : (x : Name) (st : Seen) (s : List ℕ) (r : Seen × List ℕ) → readValue x st s ≡ some r → Splits s r (Valued x st)
 unfolding readValue
-value-sound Bits (seen none i d b z) s r e =
-    bound (readArray s) _ e (λ q x y. let (c, p, w) = array-sound s q x in kept (Valued Bits (seen none i d b z)) y (c, p, λ a k. has-bits k w))
-value-sound Bits (seen (some x) i d b z) s r e = none-some e
-value-sound SortedIndices (seen x none d b z) s r e =
-    bound (readArray s) _ e (λ q y v. let (c, p, w) = array-sound s q y in kept (Valued SortedIndices (seen x none d b z)) v (c, p, λ a k. has-indices k w))
-value-sound SortedIndices (seen x (some i) d b z) s r e = none-some e
-value-sound BestDivision (seen x i none b z) s r e =
-    bound (readWord s) _ e (λ q y v. let (c, p, w) = word-sound s q y in kept (Valued BestDivision (seen x i none b z)) v (c, p, λ a k. has-division k w))
-value-sound BestDivision (seen x i (some d) b z) s r e = none-some e
-value-sound BlockSize (seen x i d none z) s r e =
-    bound (readWord s) _ e (λ q y v. let (c, p, w) = word-sound s q y in kept (Valued BlockSize (seen x i d none z)) v (c, p, λ a k. has-block k w))
-value-sound BlockSize (seen x i d (some b) z) s r e = none-some e
-value-sound ZScore (seen x i d b false) s r e =
-    bound (skipScore s) _ e (λ q y v. let (c, p, w) = score-sound s q y in kept (Valued ZScore (seen x i d b false)) v (c, p, λ a k. has-score k w))
-value-sound ZScore (seen x i d b true) s r e = none-some e
+value-sound Bits (seen none i d b l z) s r e =
+    bound (readArray s) _ e (λ q x y. let (c, p, w) = array-sound s q x in kept (Valued Bits (seen none i d b l z)) y (c, p, λ a k. has-bits k w))
+value-sound Bits (seen (some x) i d b l z) s r e = none-some e
+value-sound SortedIndices (seen x none d b l z) s r e =
+    bound (readArray s) _ e (λ q y v. let (c, p, w) = array-sound s q y in kept (Valued SortedIndices (seen x none d b l z)) v (c, p, λ a k. has-indices k w))
+value-sound SortedIndices (seen x (some i) d b l z) s r e = none-some e
+value-sound BestDivision (seen x i none b l z) s r e =
+    bound (readWord s) _ e (λ q y v. let (c, p, w) = word-sound s q y in kept (Valued BestDivision (seen x i none b l z)) v (c, p, λ a k. has-division k w))
+value-sound BestDivision (seen x i (some d) b l z) s r e = none-some e
+value-sound BlockSize (seen x i d none l z) s r e =
+    bound (readWord s) _ e (λ q y v. let (c, p, w) = word-sound s q y in kept (Valued BlockSize (seen x i d none l z)) v (c, p, λ a k. has-block k w))
+value-sound BlockSize (seen x i d (some b) l z) s r e = none-some e
+value-sound LowFirst (seen x i d b none z) s r e =
+    bound (readTruth s) _ e (λ q y v. let (c, p, w) = truth-sound s q y in kept (Valued LowFirst (seen x i d b none z)) v (c, p, λ a k. has-low k w))
+value-sound LowFirst (seen x i d b (some l) z) s r e = none-some e
+value-sound ZScore (seen x i d b l false) s r e =
+    bound (skipScore s) _ e (λ q y v. let (c, p, w) = score-sound s q y in kept (Valued ZScore (seen x i d b l false)) v (c, p, λ a k. has-score k w))
+value-sound ZScore (seen x i d b l true) s r e = none-some e
 
 key-sound : (s : List ℕ) (r : Name × List ℕ) → readKey s ≡ some r → Splits s r (λ a x. Key (quoted x) a)
 unfolding readKey
@@ -198,6 +223,7 @@ member-complete st st′ c t (has-bits {a} {s} k v) h = rw (append-assoc a s t, 
 member-complete st st′ c t (has-indices {a} {s} k v) h = rw (append-assoc a s t, key-read SortedIndices a k st (s ++ t), array-complete v t)
 member-complete st st′ c t (has-division {a} {s} k v) h = rw (append-assoc a s t, key-read BestDivision a k st (s ++ t), word-complete v h)
 member-complete st st′ c t (has-block {a} {s} k v) h = rw (append-assoc a s t, key-read BlockSize a k st (s ++ t), word-complete v h)
+member-complete st st′ c t (has-low {a} {s} k v) h = rw (append-assoc a s t, key-read LowFirst a k st (s ++ t), truth-complete v t)
 member-complete st st′ c t (has-score {a} {s} k v) h = rw (append-assoc a s t, key-read ZScore a k st (s ++ t), score-complete v h)
 
 -- ---- texts
@@ -207,11 +233,11 @@ Ended r st b = (a c : List ℕ) → Token (ascii "{") a → Ws c → Text (a ++ 
 
 all-there : (st : Seen) (r : Exchanged) (b : List ℕ) → whole st ≡ some r → Separated Member (ascii "}") nothingSeen b st → Ended r st b
 unfolding whole
-all-there (seen none i d n z) r b e m = none-some e
-all-there (seen (some x) none d n z) r b e m = none-some e
-all-there (seen (some x) (some i) none n z) r b e m = none-some e
-all-there (seen (some x) (some i) (some d) none z) r b e m = none-some e
-all-there (seen (some x) (some i) (some d) (some n) z) r b e m = λ a c t w. subst (λ (r : Exchanged). Text (a ++ b ++ c) r) (some-same e) (text t m w)
+all-there (seen none i d n l z) r b e m = none-some e
+all-there (seen (some x) none d n l z) r b e m = none-some e
+all-there (seen (some x) (some i) none n l z) r b e m = none-some e
+all-there (seen (some x) (some i) (some d) none l z) r b e m = none-some e
+all-there (seen (some x) (some i) (some d) (some n) l z) r b e m = λ a c t w. subst (λ (r : Exchanged). Text (a ++ b ++ c) r) (some-same e) (text t m w)
 
 emptied : (l : List ℕ) → isEmpty l ≡ true → l ≡ []
 emptied [] e = refl

@@ -13,9 +13,9 @@ use Rattle.subsets.specs.Subsets.{padded}
 use Rattle.searching.specs.Finding.{noFinding}
 use Rattle.searching.specs.declared.finding.Finding.{Finding}
 use Rattle.judging.specs.Check.{checkRefusal, checkedScratch}
-use Rattle.exchange.specs.Grammar.{Exchanged}
+use Rattle.exchange.specs.Grammar.{Exchanged, lowOf}
 use Rattle.exchange.specs.Reader.{readText}
-use Rattle.exchange.specs.Cursor.{Counts, Says, TextIs, numbersIn}
+use Rattle.exchange.specs.Cursor.{Counts, Says, TextIs, numbersIn, truthHeld}
 use Rattle.exchange.specs.Exchange.{roomRefusal, begun, saidFinding, saidRefusal, readingWith, Reads}
 use Rattle.exchange.specs.declared.members.Found.{Found}
 use Rattle.exchange.specs.declared.text.TextRead.{TextRead}
@@ -64,6 +64,7 @@ saidIn s f =
       indices = numbersIn (drop (f .indices .from) s);
       division = f .division .value;
       block = f .«block_size» .value;
+      lowFirst = lowOf (truthHeld (f .«low_first»));
     }
 
 pub text-got : (s : List ℕ) (o : Option Exchanged) (r : TextRead) → TextIs s o r → r .ok ≡ true
@@ -71,7 +72,7 @@ pub text-got : (s : List ℕ) (o : Option Exchanged) (r : TextRead) → TextIs s
 text-got s none r h e = clash (r .ok) e h
 text-got s (some x) r h e =
     let says : Says s (r .found) x = h .1 in
-    ((λ i. some (record { bits = sym (says .bits .1) i; indices = sym (says .indices .1) i; division = sym (says .division) i; block = sym (says .block) i })), says .bits .0, says .indices .0)
+    ((λ i. some (record { bits = sym (says .bits .1) i; indices = sym (says .indices .1) i; division = sym (says .division) i; block = sym (says .block) i; lowFirst = sym (says .low) i })), says .bits .0, says .indices .0)
 
 -- ---- the whole
 

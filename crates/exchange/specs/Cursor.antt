@@ -5,10 +5,11 @@ use mathlib.Core.List.{List, []}
 use mathlib.Core.Option.{Option, none, some}
 use Prim.Native.Nat.{ℕ, _+_, _≤_, _<_}
 use lib.ListN.{length, getD, drop}
-use Rattle.exchange.specs.Grammar.{Exchanged, isDigit, Seen, seen}
+use Rattle.exchange.specs.Grammar.{Exchanged, isDigit, Seen, seen, lowOf}
 use Rattle.exchange.specs.Reader.{Read, readArray}
 use Rattle.exchange.specs.declared.cursor.Place.{Place}
 use Rattle.exchange.specs.declared.words.WordAt.{WordAt}
+use Rattle.exchange.specs.declared.truth.TruthAt.{TruthAt}
 use Rattle.exchange.specs.declared.arrays.Counted.{Counted}
 use Rattle.exchange.specs.declared.arrays.ArrayAt.{ArrayAt}
 use Rattle.exchange.specs.declared.keys.Name.{Name}
@@ -27,7 +28,7 @@ abbrev pub Got : {A : Type 0} → Bool → Option A → (A → Type 0) → Type 
 Got ok none P = ok ≡ false
 Got ok (some a) P = (ok ≡ true) × P a
 
--- ---- tokens, numbers, arrays, keys: the place behind them, and what they say
+-- ---- tokens, numbers, true and false, arrays, keys: the place behind them, and what they say
 
 -- a token: the place behind it
 abbrev pub PlaceIs : List ℕ → Option (List ℕ) → Place → Type 0
@@ -36,6 +37,10 @@ PlaceIs s o r = Got (r .ok) o (λ t. At s (r .at) t)
 -- a whole number, and the place
 abbrev pub WordIs : List ℕ → Read ℕ → WordAt → Type 0
 WordIs s o r = Got (r .ok) o (λ p. (r .value ≡ p .0) × At s (r .at) (p .1))
+
+-- true or false, and the place
+abbrev pub TruthIs : List ℕ → Read Bool → TruthAt → Type 0
+TruthIs s o r = Got (r .ok) o (λ p. (r .value ≡ p .0) × At s (r .at) (p .1))
 
 -- how many numbers, and the place
 abbrev pub CountIs : List ℕ → Read (List ℕ) → Counted → Type 0
@@ -89,9 +94,13 @@ listHeld s r = cond (r .ok) (some (numbersIn (drop (r .from) s))) none
 abbrev pub wordHeld : WordAt → Option ℕ
 wordHeld r = cond (r .ok) (some (r .value)) none
 
+-- true or false, found or not
+abbrev pub truthHeld : TruthAt → Option Bool
+truthHeld r = cond (r .ok) (some (r .value)) none
+
 -- what the members so far have said
 abbrev pub seenIn : List ℕ → Found → Seen
-seenIn s f = seen (listHeld s (f .bits)) (listHeld s (f .indices)) (wordHeld (f .division)) (wordHeld (f .«block_size»)) (f .scored)
+seenIn s f = seen (listHeld s (f .bits)) (listHeld s (f .indices)) (wordHeld (f .division)) (wordHeld (f .«block_size»)) (truthHeld (f .«low_first»)) (f .scored)
 
 -- an array that was read lies in the text, and was counted
 pub record Counts (s : List ℕ) (r : ArrayAt) : Type 0 where
@@ -113,6 +122,7 @@ pub record Says (s : List ℕ) (f : Found) (e : Exchanged) : Type 0 where
   pub indices : Counts s (f .indices) × (numbersIn (drop (f .indices .from) s) ≡ e .indices)
   pub division : f .division .value ≡ e .division
   pub block : f .«block_size» .value ≡ e .block
+  pub low : lowOf (truthHeld (f .«low_first»)) ≡ e .lowFirst
 
 -- a text, where it is one
 abbrev pub TextIs : List ℕ → Option Exchanged → TextRead → Type 0

@@ -30,7 +30,7 @@ begun entries lent = entries ++ drop (length entries) lent
 
 -- what is written of a finding and its order: no z, and no bit entry past the width
 abbrev pub exchangedOf : Finding → List ℕ → Exchanged
-exchangedOf f order = record { bits = chosen f; indices = order; division = f .division; block = f .«block_size» }
+exchangedOf f order = record { bits = chosen f; indices = order; division = f .division; block = f .«block_size»; lowFirst = f .«low_first» }
 
 -- the bytes that are written
 abbrev pub findingText : Finding → List ℕ → List ℕ
@@ -61,7 +61,7 @@ pub record Writes (f : Finding) (order scratch out : List ℕ) (r : Written) (sc
 -- the finding that is read: its width is the number of bits, of which it has room for twenty; z is 0, and so are the bit entries past the width
 abbrev pub saidFinding : Exchanged → Finding
 saidFinding e =
-    record { «block_size» = e .block; width = length (e .bits); bits = padded (take 20 (e .bits)); division = e .division; z = zeroScore }
+    record { «block_size» = e .block; width = length (e .bits); bits = padded (take 20 (e .bits)); division = e .division; z = zeroScore; «low_first» = e .lowFirst }
 
 -- of what a text says, the order buffer having `room` entries: 17, then the check's refusals
 unfoldable pub saidRefusal : Exchanged → ℕ → ℕ → ℕ

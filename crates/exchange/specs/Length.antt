@@ -12,9 +12,9 @@ use Rattle.exchange.specs.Grammar.{Exchanged}
 use Rattle.exchange.specs.Reader.{readText}
 use Rattle.exchange.specs.Exchange.{findingText}
 
--- 62 fixed bytes; 4 digits for the block size and for each of the k bits, 1 + 3k/10 for the division and for each of the 2^k indices; commas between them
+-- 80 fixed bytes, where low_first is false; 4 digits for the block size and for each of the k bits, 1 + 3k/10 for the division and for each of the 2^k indices; commas between them
 unfoldable pub longestText : ℕ → ℕ
-longestText k = cond (validWidth k) (63 + 5 * k + (2 ^ k + 1) * (2 + 3 * k / 10)) 0
+longestText k = cond (validWidth k) (81 + 5 * k + (2 ^ k + 1) * (2 + 3 * k / 10)) 0
 
 -- Theorem: no text of an accepted finding is longer.
 abbrev pub TextFits : Type 0

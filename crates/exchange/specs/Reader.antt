@@ -5,9 +5,9 @@ use mathlib.Core.Option.{Option, none, some}
 use Prim.Native.Nat.{ℕ, zero, suc, _+_, _-_, _*_}
 use lib.Dec.{eqb, leb}
 use lib.ListN.{length}
-use Rattle.exchange.specs.Grammar.{Exchanged, ascii, isSpace, isDigit, isExp, Seen, seen}
+use Rattle.exchange.specs.Grammar.{Exchanged, ascii, isSpace, isDigit, isExp, Seen, seen, lowOf}
 use Rattle.exchange.specs.declared.keys.Name.{Name}
-use Rattle.exchange.specs.declared.keys.Name.the-variants.{Bits, SortedIndices, BestDivision, BlockSize, ZScore}
+use Rattle.exchange.specs.declared.keys.Name.the-variants.{Bits, SortedIndices, BestDivision, BlockSize, LowFirst, ZScore}
 
 -- what was read, and the bytes that are left; or nothing
 abbrev pub Read : Type 0 → Type 0
@@ -39,6 +39,10 @@ readExactly (c ∷ k) (b ∷ s) = cond (eqb b c) (readExactly k s) none
 -- the bytes k, white space before them
 unfoldable pub readToken : List ℕ → List ℕ → Option (List ℕ)
 readToken k s = readExactly k (skip s)
+
+-- false or true, white space before it
+unfoldable pub readTruth : List ℕ → Read Bool
+readTruth s = either (readToken (ascii "false") s) (λ t. some (false, t)) (bind (readToken (ascii "true") s) (λ t. some (true, t)))
 
 -- ---- numbers
 
@@ -120,6 +124,7 @@ quoted Bits = ascii "\"bits\""
 quoted SortedIndices = ascii "\"sorted_indices\""
 quoted BestDivision = ascii "\"best_division\""
 quoted BlockSize = ascii "\"block_size\""
+quoted LowFirst = ascii "\"low_first\""
 quoted ZScore = ascii "\"z_score\""
 
 -- the first of these names that stands there
@@ -129,7 +134,7 @@ readName (x ∷ xs) s = either (readToken (quoted x) s) (λ t. some (x, t)) (rea
 
 -- the keys there are
 abbrev pub names : List Name
-names = Bits ∷ SortedIndices ∷ BestDivision ∷ BlockSize ∷ ZScore ∷ []
+names = Bits ∷ SortedIndices ∷ BestDivision ∷ BlockSize ∷ LowFirst ∷ ZScore ∷ []
 
 -- a key and the colon behind it
 unfoldable pub readKey : List ℕ → Read Name
@@ -137,28 +142,30 @@ readKey s = bind (readName names s) (λ (x, t). bind (readToken (ascii ":") t) (
 
 -- the value of a key that was not there before
 unfoldable pub readValue : Name → Seen → List ℕ → Read Seen
-readValue Bits (seen none i d b z) s = bind (readArray s) (λ (ns, t). some (seen (some ns) i d b z, t))
-readValue Bits (seen (some x) i d b z) s = none
-readValue SortedIndices (seen x none d b z) s = bind (readArray s) (λ (ns, t). some (seen x (some ns) d b z, t))
-readValue SortedIndices (seen x (some i) d b z) s = none
-readValue BestDivision (seen x i none b z) s = bind (readWord s) (λ (n, t). some (seen x i (some n) b z, t))
-readValue BestDivision (seen x i (some d) b z) s = none
-readValue BlockSize (seen x i d none z) s = bind (readWord s) (λ (n, t). some (seen x i d (some n) z, t))
-readValue BlockSize (seen x i d (some b) z) s = none
-readValue ZScore (seen x i d b false) s = bind (skipScore s) (λ t. some (seen x i d b true, t))
-readValue ZScore (seen x i d b true) s = none
+readValue Bits (seen none i d b l z) s = bind (readArray s) (λ (ns, t). some (seen (some ns) i d b l z, t))
+readValue Bits (seen (some x) i d b l z) s = none
+readValue SortedIndices (seen x none d b l z) s = bind (readArray s) (λ (ns, t). some (seen x (some ns) d b l z, t))
+readValue SortedIndices (seen x (some i) d b l z) s = none
+readValue BestDivision (seen x i none b l z) s = bind (readWord s) (λ (n, t). some (seen x i (some n) b l z, t))
+readValue BestDivision (seen x i (some d) b l z) s = none
+readValue BlockSize (seen x i d none l z) s = bind (readWord s) (λ (n, t). some (seen x i d (some n) l z, t))
+readValue BlockSize (seen x i d (some b) l z) s = none
+readValue LowFirst (seen x i d b none z) s = bind (readTruth s) (λ (v, t). some (seen x i d b (some v) z, t))
+readValue LowFirst (seen x i d b (some l) z) s = none
+readValue ZScore (seen x i d b l false) s = bind (skipScore s) (λ t. some (seen x i d b l true, t))
+readValue ZScore (seen x i d b l true) s = none
 
 -- a key with its colon, and the value that it wants
 unfoldable pub readMember : Seen → List ℕ → Read Seen
 readMember st s = bind (readKey s) (λ (x, t). readValue x st t)
 
--- all four keys were there
+-- the four keys were there that have to be
 unfoldable pub whole : Seen → Option Exchanged
-whole (seen none i d b z) = none
-whole (seen (some x) none d b z) = none
-whole (seen (some x) (some i) none b z) = none
-whole (seen (some x) (some i) (some d) none z) = none
-whole (seen (some x) (some i) (some d) (some b) z) = some (record { bits = x; indices = i; division = d; block = b })
+whole (seen none i d b l z) = none
+whole (seen (some x) none d b l z) = none
+whole (seen (some x) (some i) none b l z) = none
+whole (seen (some x) (some i) (some d) none l z) = none
+whole (seen (some x) (some i) (some d) (some b) l z) = some (record { bits = x; indices = i; division = d; block = b; lowFirst = lowOf l })
 
 -- nothing is left
 abbrev pub isEmpty : List ℕ → Bool
@@ -167,7 +174,7 @@ isEmpty (c ∷ s) = false
 
 -- before the first member
 abbrev pub nothingSeen : Seen
-nothingSeen = seen none none none none false
+nothingSeen = seen none none none none none false
 
 -- the whole text: a brace, members up to the closing one, white space
 unfoldable pub readText : List ℕ → Option Exchanged

@@ -1,5 +1,6 @@
 -- What the two calls promise together.
 use mathlib.Core.Path.{_≡_}
+use mathlib.Core.Bool.{Bool}
 use mathlib.Core.List.{List}
 use mathlib.Core.Option.{some}
 use Prim.Native.Nat.{ℕ, _^_, _≤_}
@@ -27,7 +28,7 @@ pub record ReaderAgrees : Type 0 where
 
 -- f without its score, and with zeros in the bit entries past its width
 abbrev pub bare : Finding → Finding
-bare f = record { «block_size» = f .«block_size»; width = f .width; bits = padded (chosen f); division = f .division; z = zeroScore }
+bare f = record { «block_size» = f .«block_size»; width = f .width; bits = padded (chosen f); division = f .division; z = zeroScore; «low_first» = f .«low_first» }
 
 -- Theorem: what was written is read back, where the reader's buffers have room.
 abbrev pub RoundTrip : Type 0
@@ -47,7 +48,7 @@ AcceptedWritten =
 
 -- f without its score
 abbrev pub scoreless : Finding → Finding
-scoreless f = record { «block_size» = f .«block_size»; width = f .width; bits = f .bits; division = f .division; z = zeroScore }
+scoreless f = record { «block_size» = f .«block_size»; width = f .width; bits = f .bits; division = f .division; z = zeroScore; «low_first» = f .«low_first» }
 
 -- A finding of width k and its order are accepted, so written, and read back the same but for the score, wherever the buffers have room.
 pub record Passes (k : ℕ) (f : Finding) (order : List ℕ) : Type 0 where
@@ -74,5 +75,5 @@ pub record SearchesPass (s : Sampler) (ws′ : List ℕ) : Type 0 where
 -- Theorem: after every such start and all such feeds.
 abbrev pub SearchesExchange : Type 0
 SearchesExchange =
-    (B : ℕ) (ws : List ℕ) (pieces : List (List ℕ)) (answers : List ℕ) (s : Sampler) (ws′ : List ℕ)
-    → Acquisition B ws pieces answers s ws′ → SearchesPass s ws′
+    (B : ℕ) (low : Bool) (ws : List ℕ) (pieces : List (List ℕ)) (answers : List ℕ) (s : Sampler) (ws′ : List ℕ)
+    → Acquisition B low ws pieces answers s ws′ → SearchesPass s ws′

@@ -1,6 +1,6 @@
--- What is written: the four keys in their order, decimal numbers without leading zeros, no white space.
+-- What is written: the five keys in their order, decimal numbers without leading zeros, no white space.
 use mathlib.Core.Path.{_≡_}
-use mathlib.Core.Bool.{cond}
+use mathlib.Core.Bool.{Bool, cond}
 use mathlib.Core.List.{List, [], _∷_, _++_}
 use Prim.Native.Nat.{ℕ, zero, suc, _+_, _/_, _%_, _^_, _≤_, _<_}
 use lib.Dec.{ltb}
@@ -33,19 +33,28 @@ unfoldable pub listed : List ℕ → List ℕ
 listed [] = []
 listed (n ∷ ns) = decimal n ++ behind ns
 
+-- true or false
+abbrev pub truth : Bool → List ℕ
+truth v = cond v (ascii "true") (ascii "false")
+
 -- the whole text
 unfoldable pub textOf : Exchanged → List ℕ
 textOf r =
     ascii "{\"bits\":[" ++ listed (r .bits) ++ ascii "],\"sorted_indices\":[" ++ listed (r .indices) ++ ascii "],\"best_division\":"
-    ++ decimal (r .division) ++ ascii ",\"block_size\":" ++ decimal (r .block) ++ ascii "}"
+    ++ decimal (r .division) ++ ascii ",\"block_size\":" ++ decimal (r .block) ++ ascii ",\"low_first\":" ++ truth (r .lowFirst) ++ ascii "}"
 
 -- the two parts in which it is written: up to the end of the second array's numbers, and from there on
 unfoldable pub arraysText : List ℕ → List ℕ → List ℕ
 arraysText bits indices = ascii "{\"bits\":[" ++ listed bits ++ ascii "],\"sorted_indices\":[" ++ listed indices
 
 -- .. the second of them
-unfoldable pub numbersText : ℕ → ℕ → List ℕ
-numbersText division block = ascii "],\"best_division\":" ++ decimal division ++ ascii ",\"block_size\":" ++ decimal block ++ ascii "}"
+unfoldable pub numbersText : ℕ → ℕ → Bool → List ℕ
+numbersText division block low =
+    ascii "],\"best_division\":" ++ decimal division ++ ascii ",\"block_size\":" ++ decimal block ++ ascii ",\"low_first\":" ++ truth low ++ ascii "}"
+
+-- .. of which this is the end: the last member and the brace
+unfoldable pub lowText : Bool → List ℕ
+lowText low = ascii ",\"low_first\":" ++ truth low ++ ascii "}"
 
 -- numbers that 32 bits hold
 abbrev pub Words : List ℕ → Type 0

@@ -7,12 +7,13 @@ ghost use Rattle.exchange.specs.Reader.{names, readName, readKey};
 ghost use Rattle.exchange.specs.Cursor.{KeyIs};
 use crate::cursor::token;
 
-// bits, sorted_indices, best_division, block_size, z_score.
+// bits, sorted_indices, best_division, block_size, low_first, z_score.
 pub enum Name {
     Bits,
     SortedIndices,
     BestDivision,
     BlockSize,
+    LowFirst,
     ZScore,
 }
 
@@ -64,6 +65,10 @@ fn read_name(s: &[u8], at: usize) -> KeyAt
     let block = token(s, at, b"\"block_size\"");
     if block.ok {
         return key_at(Name::BlockSize, block.at);
+    }
+    let low = token(s, at, b"\"low_first\"");
+    if low.ok {
+        return key_at(Name::LowFirst, low.at);
     }
     let score = token(s, at, b"\"z_score\"");
     if score.ok {

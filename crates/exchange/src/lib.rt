@@ -7,5 +7,6 @@ mod members;
 pub mod reader;
 mod score;
 mod text;
+mod truth;
 mod words;
 pub mod writer;

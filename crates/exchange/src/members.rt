@@ -6,7 +6,7 @@ ghost use lib.ListN.{length, drop};
 ghost use Rattle.exchange.specs.Grammar.{ascii};
 ghost use Rattle.exchange.specs.Reader.{readValue, readMember, readSeparated, nothingSeen};
 ghost use Rattle.exchange.specs.Cursor.{seenIn, Sized, MembersAre};
-ghost use Rattle.exchange.specs.declared.keys.Name.the-variants.{Bits, SortedIndices, BestDivision, BlockSize, ZScore};
+ghost use Rattle.exchange.specs.declared.keys.Name.the-variants.{Bits, SortedIndices, BestDivision, BlockSize, LowFirst, ZScore};
 use crate::arrays::ArrayAt;
 use crate::arrays::no_array;
 use crate::arrays::read_array;
@@ -14,6 +14,9 @@ use crate::cursor::token;
 use crate::keys::Name;
 use crate::keys::read_key;
 use crate::score::skip_score;
+use crate::truth::TruthAt;
+use crate::truth::no_truth;
+use crate::truth::read_truth;
 use crate::words::WordAt;
 use crate::words::no_word;
 use crate::words::read_word;
@@ -24,6 +27,7 @@ pub struct Found {
     pub indices: ArrayAt,
     pub division: WordAt,
     pub block_size: WordAt,
+    pub low_first: TruthAt,
     pub scored: bool,
 }
 
@@ -88,6 +92,7 @@ fn read_value(s: &[u8], at: usize, name: Name, found: Found) -> MembersAt
         Name::SortedIndices => read_indices(s, at, found),
         Name::BestDivision => read_division(s, at, found),
         Name::BlockSize => read_block(s, at, found),
+        Name::LowFirst => read_low(s, at, found),
         Name::ZScore => read_score(s, at, found),
     }
 }
@@ -109,6 +114,7 @@ fn read_bits(s: &[u8], at: usize, found: Found) -> MembersAt
     let indices = found.indices;
     let division = found.division;
     let block_size = found.block_size;
+    let low_first = found.low_first;
     MembersAt {
         ok: true,
         found: Found {
@@ -116,6 +122,7 @@ fn read_bits(s: &[u8], at: usize, found: Found) -> MembersAt
             indices,
             division,
             block_size,
+            low_first,
             scored: found.scored,
         },
         at: bits.at,
@@ -139,6 +146,7 @@ fn read_indices(s: &[u8], at: usize, found: Found) -> MembersAt
     let bits = found.bits;
     let division = found.division;
     let block_size = found.block_size;
+    let low_first = found.low_first;
     MembersAt {
         ok: true,
         found: Found {
@@ -146,6 +154,7 @@ fn read_indices(s: &[u8], at: usize, found: Found) -> MembersAt
             indices,
             division,
             block_size,
+            low_first,
             scored: found.scored,
         },
         at: indices.at,
@@ -169,6 +178,7 @@ fn read_division(s: &[u8], at: usize, found: Found) -> MembersAt
     let bits = found.bits;
     let indices = found.indices;
     let block_size = found.block_size;
+    let low_first = found.low_first;
     MembersAt {
         ok: true,
         found: Found {
@@ -176,6 +186,7 @@ fn read_division(s: &[u8], at: usize, found: Found) -> MembersAt
             indices,
             division,
             block_size,
+            low_first,
             scored: found.scored,
         },
         at: division.at,
@@ -199,6 +210,7 @@ fn read_block(s: &[u8], at: usize, found: Found) -> MembersAt
     let bits = found.bits;
     let indices = found.indices;
     let division = found.division;
+    let low_first = found.low_first;
     MembersAt {
         ok: true,
         found: Found {
@@ -206,9 +218,42 @@ fn read_block(s: &[u8], at: usize, found: Found) -> MembersAt
             indices,
             division,
             block_size,
+            low_first,
             scored: found.scored,
         },
         at: block_size.at,
+    }
+}
+
+// The value of low_first.
+fn read_low(s: &[u8], at: usize, found: Found) -> MembersAt
+    requires { ⌜ at ≤ length (now s) ⌝ }
+    requires { ⌜ Sized (now s) found ⌝ }
+    ensures { λ r. ⌜ MembersAre (now (s .entry)) (readValue LowFirst (seenIn (now (s .entry)) found) (drop at (now (s .entry)))) r ⌝ }
+{
+    let before = found.low_first;
+    if before.ok {
+        return no_members();
+    }
+    let low_first = read_truth(s, at);
+    if !low_first.ok {
+        return no_members();
+    }
+    let bits = found.bits;
+    let indices = found.indices;
+    let division = found.division;
+    let block_size = found.block_size;
+    MembersAt {
+        ok: true,
+        found: Found {
+            bits,
+            indices,
+            division,
+            block_size,
+            low_first,
+            scored: found.scored,
+        },
+        at: low_first.at,
     }
 }
 
@@ -229,6 +274,7 @@ fn read_score(s: &[u8], at: usize, found: Found) -> MembersAt
     let indices = found.indices;
     let division = found.division;
     let block_size = found.block_size;
+    let low_first = found.low_first;
     MembersAt {
         ok: true,
         found: Found {
@@ -236,6 +282,7 @@ fn read_score(s: &[u8], at: usize, found: Found) -> MembersAt
             indices,
             division,
             block_size,
+            low_first,
             scored: true,
         },
         at: score.at,
@@ -255,13 +302,14 @@ fn no_members() -> MembersAt
 
 // What no member has said.
 pub fn nothing_found() -> Found
-    ensures { λ r. ⌜ (r .bits .ok ≡ false) × (r .indices .ok ≡ false) × (r .division .ok ≡ false) × (r .«block_size» .ok ≡ false) × (r .scored ≡ false) ⌝ }
+    ensures { λ r. ⌜ (r .bits .ok ≡ false) × (r .indices .ok ≡ false) × (r .division .ok ≡ false) × (r .«block_size» .ok ≡ false) × (r .«low_first» .ok ≡ false) × (r .scored ≡ false) ⌝ }
 {
     Found {
         bits: no_array(),
         indices: no_array(),
         division: no_word(),
         block_size: no_word(),
+        low_first: no_truth(),
         scored: false,
     }
 }

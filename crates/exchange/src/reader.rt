@@ -5,12 +5,14 @@ ghost use mathlib.Core.List.{[]};
 ghost use lib.ListN.{take, drop};
 ghost use Rattle.subsets.specs.Subsets.{padded};
 ghost use Rattle.searching.specs.Finding.{noFinding};
-ghost use Rattle.exchange.specs.Cursor.{Counts, numbersIn};
+ghost use Rattle.exchange.specs.Grammar.{lowOf};
+ghost use Rattle.exchange.specs.Cursor.{Counts, numbersIn, truthHeld};
 ghost use Rattle.exchange.specs.Exchange.{saidFinding, Reads};
 use crate::arrays::ArrayAt;
 use crate::arrays::store_entries;
 use crate::members::Found;
 use crate::text::read_text;
+use crate::truth::is_true;
 use judging::check::validate;
 use searching::finding::Finding;
 
@@ -60,17 +62,19 @@ fn refused(refusal: u32) -> Reading
 // The finding of a text that is one: the width is the number of its bits, of which the array has room for twenty.
 fn finding_at(text: &[u8], found: Found) -> Finding
     requires { ⌜ Counts (now text) (found .bits) ⌝ }
-    ensures { λ r. ⌜ r ≡ saidFinding (record { bits = numbersIn (drop (found .bits .from) (now (text .entry))); indices = []; division = found .division .value; block = found .«block_size» .value }) ⌝ }
+    ensures { λ r. ⌜ r ≡ saidFinding (record { bits = numbersIn (drop (found .bits .from) (now (text .entry))); indices = []; division = found .division .value; block = found .«block_size» .value; lowFirst = lowOf (truthHeld (found .«low_first»)) }) ⌝ }
 {
     let listed = found.bits;
     let division = found.division;
     let block_size = found.block_size;
+    let low_first = found.low_first;
     Finding {
         block_size: block_size.value as usize,
         width: listed.count,
         bits: bits_at(text, listed),
         division: division.value,
         z: 0.0,
+        low_first: is_true(low_first),
     }
 }
 

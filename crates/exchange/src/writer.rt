@@ -6,7 +6,7 @@ ghost use lib.ListN.{length};
 ghost use Rattle.counting.specs.Buffer.{put};
 ghost use Rattle.exchange.specs.Exchange.{findingText, Writes};
 ghost use Rattle.exchange.specs.Length.{longestText};
-ghost use Rattle.exchange.specs.Writer.{arraysText, numbersText, Writable};
+ghost use Rattle.exchange.specs.Writer.{truth, arraysText, numbersText, lowText, Writable};
 use crate::decimals::digits;
 use crate::decimals::listed_length;
 use crate::decimals::put_decimal;
@@ -66,7 +66,7 @@ pub fn longest_text(k: usize) -> usize
     if !valid_width(k) {
         return 0;
     }
-    63 + 5 * k + (bin_count(k) + 1) * (2 + 3 * k / 10)
+    81 + 5 * k + (bin_count(k) + 1) * (2 + 3 * k / 10)
 }
 
 // The length of the text.
@@ -77,7 +77,21 @@ fn text_length(finding: Finding, order: &[u32]) -> usize
     let bits = finding.bits;
     let k = finding.width;
     let numbers = digits(finding.division) + digits(finding.block_size as u32);
-    62 + listed_length(&bits[..k]) + listed_length(order) + numbers
+    75
+        + listed_length(&bits[..k])
+        + listed_length(order)
+        + numbers
+        + truth_length(finding.low_first)
+}
+
+// The length of true or false.
+fn truth_length(value: bool) -> usize
+    ensures { λ r. ⌜ r ≡ length (truth value) ⌝ }
+{
+    if value {
+        return 4;
+    }
+    5
 }
 
 // Writes the text to the front of a buffer with room for it; answers its length.
@@ -90,7 +104,13 @@ fn put_text(finding: Finding, order: &[u32], out: &mut [u8]) -> usize
     let bits = finding.bits;
     let k = finding.width;
     let at = put_arrays(out, &bits[..k], order);
-    put_numbers(out, at, finding.division, finding.block_size as u32)
+    put_numbers(
+        out,
+        at,
+        finding.division,
+        finding.block_size as u32,
+        finding.low_first,
+    )
 }
 
 // The first two members, up to the end of the second array.
@@ -105,17 +125,29 @@ fn put_arrays(out: &mut [u8], bits: &[u32], order: &[u32]) -> usize
     put_listed(out, c, order)
 }
 
-// The end of the second array and the last two members.
-fn put_numbers(out: &mut [u8], at: usize, division: u32, block_size: u32) -> usize
-    requires { ⌜ at + length (numbersText division «block_size») ≤ length (now out) ⌝ }
-    ensures { λ r. ⌜ r ≡ at + length (numbersText division «block_size») ⌝ }
-    ensures { λ _. ⌜ now (out .exit) ≡ put (now (out .entry)) at (numbersText division «block_size») ⌝ }
+// The end of the second array and the last three members.
+fn put_numbers(out: &mut [u8], at: usize, division: u32, block_size: u32, low_first: bool) -> usize
+    requires { ⌜ at + length (numbersText division «block_size» «low_first») ≤ length (now out) ⌝ }
+    ensures { λ r. ⌜ r ≡ at + length (numbersText division «block_size» «low_first») ⌝ }
+    ensures { λ _. ⌜ now (out .exit) ≡ put (now (out .entry)) at (numbersText division «block_size» «low_first») ⌝ }
 {
     let a = put_bytes(out, at, b"],\"best_division\":");
     let b = put_decimal(out, a, division);
     let c = put_bytes(out, b, b",\"block_size\":");
     let d = put_decimal(out, c, block_size);
-    put_bytes(out, d, b"}")
+    put_low(out, d, low_first)
+}
+
+// The last member and the closing brace.
+fn put_low(out: &mut [u8], at: usize, low_first: bool) -> usize
+    requires { ⌜ at + length (lowText «low_first») ≤ length (now out) ⌝ }
+    ensures { λ r. ⌜ r ≡ at + length (lowText «low_first») ⌝ }
+    ensures { λ _. ⌜ now (out .exit) ≡ put (now (out .entry)) at (lowText «low_first») ⌝ }
+{
+    if low_first {
+        return put_bytes(out, at, b",\"low_first\":true}");
+    }
+    put_bytes(out, at, b",\"low_first\":false}")
 }
 
 // Writes bytes from place `at` on; answers the place behind them.

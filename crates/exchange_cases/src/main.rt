@@ -13,10 +13,10 @@ fn main() {
 }
 
 // For the whole of standard input.
-fn room() -> [u8; 262144]
-    ensures { λ r. ⌜ 262144 ≡ length r ⌝ }
+fn room() -> [u8; 524288]
+    ensures { λ r. ⌜ 524288 ≡ length r ⌝ }
 {
-    [0; 262144]
+    [0; 524288]
 }
 
 // All cases of a text: the readings, the writings.

@@ -1,6 +1,6 @@
 // Cases of readings: the text, the number of its bytes first; the lengths of the order and of the scratch.
-// Answer: a line with the refusal and the finding's numbers, B, the width, the division, the pattern of z and 20 bits; one with the order after it, and one
-// with the scratch.
+// Answer: a line with the refusal and the finding's numbers, B, the width, the division, the pattern of z, 20 bits and low_first as
+// 0 or 1; one with the order after it, and one with the scratch.
 use crate::buffers;
 use cases::entries::print_first;
 use cases::patterns::print_double;
@@ -70,4 +70,5 @@ fn print_finding(finding: Finding) {
     print_double(finding.z);
     let bits = finding.bits;
     print_first(&bits, 20);
+    print(finding.low_first as u64);
 }

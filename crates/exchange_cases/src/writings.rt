@@ -1,5 +1,5 @@
-// Cases of writings: B, the width, 20 bits, of which those past the width mean nothing, the division, the pattern of z; the order, its length first; the
-// lengths of the scratch and of the output.
+// Cases of writings: B, the width, 20 bits, of which those past the width mean nothing, the division, the pattern of z, low_first, which is true
+// where it is not 0; the order, its length first; the lengths of the scratch and of the output.
 // Answer: a line with the refusal and the length; one with the output after it, and one with the scratch.
 use crate::buffers;
 use cases::entries::print_first;
@@ -44,6 +44,7 @@ fn given_at(text: &[u8], at: usize) -> Given {
     let after = numbers(text, width.at, &mut bits);
     let division = number(text, after);
     let z = number(text, division.at);
+    let low_first = number(text, z.at);
     Given {
         finding: Finding {
             block_size: size.value as usize,
@@ -51,8 +52,9 @@ fn given_at(text: &[u8], at: usize) -> Given {
             bits,
             division: at_most(division.value, 4294967295) as u32,
             z: double(z.value),
+            low_first: low_first.value != 0,
         },
-        at: z.at,
+        at: low_first.at,
     }
 }
 

@@ -1,15 +1,17 @@
--- What an exported function promises, from what the function that it wraps has promised and what was written; and where a record has no room.
+-- What an exported function promises, from what the function that it wraps has promised and what was written; and where a record has no room or is none.
 use mathlib.Core.Path.{_≡_, refl, ap, subst, _∙_}
-use mathlib.Core.Logic.{_⊎_, inl, inr}
 use mathlib.Core.Bool.{Bool}
 use mathlib.Core.List.{List, [], _∷_}
 use Prim.Native.Nat.{ℕ, _≤_, _<_}
 use native.Mathlib.Omega.{arith}
+use lib.Dec.{leb}
 use lib.ListN.{length}
+use borrow.Author.Tests.{leb-true}
 use Rattle.counting.specs.Sampling.{startedOf, startedWords, fedOf, fedWords}
 use Rattle.counting.specs.declared.sampling.Sampler.{Sampler}
 use Rattle.counting.specs.declared.sampling.Started.{Started}
 use Rattle.counting.specs.declared.sampling.Fed.{Fed}
+use Rattle.searching.proofs.Refusing.{passed}
 use Rattle.searching.specs.Search.{DirectSearch, LayeredSearch}
 use Rattle.searching.specs.declared.finding.Searched.{Searched}
 use Rattle.judging.specs.Evaluation.{evaluatedOf, evaluatedScratch}
@@ -20,37 +22,50 @@ use Rattle.judging.specs.declared.plan.Plan.{Plan}
 use Rattle.exchange.specs.Exchange.{Writes, Reads}
 use Rattle.exchange.specs.declared.reader.Reading.{Reading}
 use Rattle.exchange.specs.declared.writer.Written.{Written}
-use Rattle.exports.specs.Records.{samplerNumbers, samplerOf, findingNumbers, findingRead, evaluatedNumbers, planNumbers, written}
+use Rattle.exports.specs.Records.{samplerNumbers, samplerOf, findingNumbers, findingRead, evaluatedNumbers, planNumbers, written, samplerUnread, searchUnread, findingUnread, evaluationUnread}
 use Rattle.exports.specs.Calls.{StartCall, FeedCall, Answered, DirectCall, LayeredCall, EvaluateCall, WriteCall, ReadCall, SplitCall, PlanCall}
 
--- one of two slices is too short, where both are long enough
-neither : {a b m n : ℕ} → m ≤ a → n ≤ b → (a < m) ⊎ (b < n) → ⊥
-neither h i (inl x) = omega arith
-neither h i (inr x) = omega arith
+-- ---- records that can be read
+
+pub sampler-room : (l : List ℕ) → samplerUnread l ≡ 0 → 4 ≤ length l
+unfolding samplerUnread
+sampler-room l e = leb-true 4 (length l) (passed (leb 4 (length l)) _ 25 (omega arith) e .0)
+
+pub search-room : (l : List ℕ) (room : ℕ) → searchUnread l room ≡ 0 → (25 ≤ room) × (4 ≤ length l)
+unfolding searchUnread
+search-room l room e = let p = passed (leb 25 room) (samplerUnread l) 25 (omega arith) e in (leb-true 25 room (p .0), sampler-room l (p .1))
+
+pub finding-room : (l : List ℕ) → findingUnread l ≡ 0 → 25 ≤ length l
+unfolding findingUnread
+finding-room l e = leb-true 25 (length l) (passed (leb 25 (length l)) _ 25 (omega arith) e .0)
+
+pub evaluation-room : (l : List ℕ) (room : ℕ) → evaluationUnread l room ≡ 0 → (3 ≤ room) × (25 ≤ length l)
+unfolding evaluationUnread
+evaluation-room l room e = let p = passed (leb 3 room) (findingUnread l) 25 (omega arith) e in (leb-true 3 room (p .0), finding-room l (p .1))
 
 -- ---- start
 
 pub start-made :
-    (B : ℕ) (ws sampler : List ℕ) (a : Started) (ws′ sampler′ : List ℕ)
-    → 3 ≤ length sampler
-    → a ≡ startedOf B (length ws)
+    (B : ℕ) (low : Bool) (ws sampler : List ℕ) (a : Started) (ws′ sampler′ : List ℕ)
+    → 4 ≤ length sampler
+    → a ≡ startedOf B low (length ws)
     → ws′ ≡ startedWords B ws
     → sampler′ ≡ written (samplerNumbers (a .sampler)) sampler
-    → StartCall B ws sampler (a .refusal) ws′ sampler′
-start-made B ws sampler a ws′ sampler′ room e w s =
+    → StartCall B low ws sampler (a .refusal) ws′ sampler′
+start-made B low ws sampler a ws′ sampler′ room e w s =
     record {
       made = λ h. (ap (λ (x : Started). x .refusal) e, w, s ∙ ap (λ (x : Started). written (samplerNumbers (x .sampler)) sampler) e);
       short = λ h. absurd (omega arith);
     }
 
-pub start-short : (B : ℕ) (ws sampler : List ℕ) → length sampler < 3 → StartCall B ws sampler 25 ws sampler
-start-short B ws sampler h = record { made = λ m. absurd (omega arith); short = λ s. (refl, refl, refl) }
+pub start-short : (B : ℕ) (low : Bool) (ws sampler : List ℕ) → length sampler < 4 → StartCall B low ws sampler 25 ws sampler
+start-short B low ws sampler h = record { made = λ m. absurd (omega arith); short = λ s. (refl, refl, refl) }
 
 -- ---- feed
 
 pub feed-made :
     (sampler ws piece : List ℕ) (given : Sampler) (a : Fed) (sampler′ ws′ : List ℕ)
-    → 3 ≤ length sampler
+    → samplerUnread sampler ≡ 0
     → given ≡ samplerOf sampler
     → a ≡ fedOf given (length ws) (length piece)
     → ws′ ≡ fedWords given ws piece
@@ -64,11 +79,11 @@ feed-made sampler ws piece given a sampler′ ws′ room g e w s =
         w ∙ ap (λ (x : Sampler). fedWords x ws piece) g,
         s ∙ ap (λ (x : Fed). written (samplerNumbers (x .sampler)) sampler) f,
       );
-      short = λ h. absurd (omega arith);
+      refused = λ h. absurd (h room);
     }
 
-pub feed-short : (sampler ws piece : List ℕ) → length sampler < 3 → FeedCall sampler ws piece 25 sampler ws
-feed-short sampler ws piece h = record { made = λ m. absurd (omega arith); short = λ s. (refl, refl, refl) }
+pub feed-unread : (sampler ws piece : List ℕ) (r : ℕ) → r ≡ samplerUnread sampler → (r ≡ 0 → ⊥) → FeedCall sampler ws piece r sampler ws
+feed-unread sampler ws piece r e some = record { made = λ m. absurd (some (e ∙ m)); refused = λ h. (e, refl, refl) }
 
 -- ---- the searches
 
@@ -81,77 +96,69 @@ answered a b finding finding′ e w =
 
 pub direct-made :
     (sampler ws : List ℕ) (first end k : ℕ) (bins order finding : List ℕ) (given : Sampler) (a : Searched) (bins′ order′ finding′ : List ℕ)
-    → 3 ≤ length sampler
-    → 24 ≤ length finding
+    → searchUnread sampler (length finding) ≡ 0
     → given ≡ samplerOf sampler
     → DirectSearch given ws first end k bins order a bins′ order′
     → finding′ ≡ written (findingNumbers (a .finding)) finding
     → DirectCall sampler ws first end k bins order finding (a .refusal) bins′ order′ finding′
-direct-made sampler ws first end k bins order finding given a bins′ order′ finding′ room space g d w =
+direct-made sampler ws first end k bins order finding given a bins′ order′ finding′ room g d w =
     let s : DirectSearch (samplerOf sampler) ws first end k bins order a bins′ order′ = subst (λ (x : Sampler). DirectSearch x ws first end k bins order a bins′ order′) g d in
     record {
-      made = λ h i. (record { answered = refl; counted = s .counted; ordered = s .ordered }, answered a _ finding finding′ (s .answered) w);
-      short = λ h. absurd (neither room space h);
+      made = λ h. (record { answered = refl; counted = s .counted; ordered = s .ordered }, answered a _ finding finding′ (s .answered) w);
+      refused = λ h. absurd (h room);
     }
 
-pub direct-short :
-    (sampler ws : List ℕ) (first end k : ℕ) (bins order finding : List ℕ)
-    → (length sampler < 3) ⊎ (length finding < 24)
-    → DirectCall sampler ws first end k bins order finding 25 bins order finding
-direct-short sampler ws first end k bins order finding h =
-    record { made = λ m n. absurd (neither m n h); short = λ s. (refl, refl, refl, refl) }
+pub direct-unread :
+    (sampler ws : List ℕ) (first end k : ℕ) (bins order finding : List ℕ) (r : ℕ) → r ≡ searchUnread sampler (length finding) → (r ≡ 0 → ⊥)
+    → DirectCall sampler ws first end k bins order finding r bins order finding
+direct-unread sampler ws first end k bins order finding r e some = record { made = λ m. absurd (some (e ∙ m)); refused = λ h. (e, refl, refl, refl) }
 
 pub layered-made :
     (sampler ws : List ℕ) (first end k : ℕ) (lower upper bins order finding : List ℕ) (given : Sampler) (a : Searched) (lower′ upper′ bins′ order′ finding′ : List ℕ)
-    → 3 ≤ length sampler
-    → 24 ≤ length finding
+    → searchUnread sampler (length finding) ≡ 0
     → given ≡ samplerOf sampler
     → LayeredSearch given ws first end k lower upper bins order a lower′ upper′ bins′ order′
     → finding′ ≡ written (findingNumbers (a .finding)) finding
     → LayeredCall sampler ws first end k lower upper bins order finding (a .refusal) lower′ upper′ bins′ order′ finding′
-layered-made sampler ws first end k lower upper bins order finding given a lower′ upper′ bins′ order′ finding′ room space g d w =
+layered-made sampler ws first end k lower upper bins order finding given a lower′ upper′ bins′ order′ finding′ room g d w =
     let s : LayeredSearch (samplerOf sampler) ws first end k lower upper bins order a lower′ upper′ bins′ order′ =
     subst (λ (x : Sampler). LayeredSearch x ws first end k lower upper bins order a lower′ upper′ bins′ order′) g d in
     record {
-      made = λ h i. (
+      made = λ h. (
         record {
           search = record { answered = refl; counted = s .search .counted; ordered = s .search .ordered };
           kept = s .kept;
         },
         answered a _ finding finding′ (s .search .answered) w,
       );
-      short = λ h. absurd (neither room space h);
+      refused = λ h. absurd (h room);
     }
 
-pub layered-short :
-    (sampler ws : List ℕ) (first end k : ℕ) (lower upper bins order finding : List ℕ)
-    → (length sampler < 3) ⊎ (length finding < 24)
-    → LayeredCall sampler ws first end k lower upper bins order finding 25 lower upper bins order finding
-layered-short sampler ws first end k lower upper bins order finding h =
-    record { made = λ m n. absurd (neither m n h); short = λ s. (refl, refl, refl, refl, refl, refl) }
+pub layered-unread :
+    (sampler ws : List ℕ) (first end k : ℕ) (lower upper bins order finding : List ℕ) (r : ℕ) → r ≡ searchUnread sampler (length finding) → (r ≡ 0 → ⊥)
+    → LayeredCall sampler ws first end k lower upper bins order finding r lower upper bins order finding
+layered-unread sampler ws first end k lower upper bins order finding r e some =
+    record { made = λ m. absurd (some (e ∙ m)); refused = λ h. (e, refl, refl, refl, refl, refl) }
 
 -- ---- judging
 
 pub evaluate-made :
     (finding order bytes scratch evaluated : List ℕ) (a : Evaluated) (scratch′ evaluated′ : List ℕ)
-    → 24 ≤ length finding
-    → 3 ≤ length evaluated
+    → evaluationUnread finding (length evaluated) ≡ 0
     → a ≡ evaluatedOf (findingRead finding) order bytes (length scratch)
     → scratch′ ≡ evaluatedScratch (findingRead finding) order bytes scratch
     → evaluated′ ≡ written (evaluatedNumbers a) evaluated
     → EvaluateCall finding order bytes scratch evaluated (a .refusal) scratch′ evaluated′
-evaluate-made finding order bytes scratch evaluated a scratch′ evaluated′ room space e s w =
+evaluate-made finding order bytes scratch evaluated a scratch′ evaluated′ room e s w =
     record {
-      made = λ h i. (ap (λ (x : Evaluated). x .refusal) e, s, w ∙ ap (λ (x : Evaluated). written (evaluatedNumbers x) evaluated) e);
-      short = λ h. absurd (neither room space h);
+      made = λ h. (ap (λ (x : Evaluated). x .refusal) e, s, w ∙ ap (λ (x : Evaluated). written (evaluatedNumbers x) evaluated) e);
+      refused = λ h. absurd (h room);
     }
 
-pub evaluate-short :
-    (finding order bytes scratch evaluated : List ℕ)
-    → (length finding < 24) ⊎ (length evaluated < 3)
-    → EvaluateCall finding order bytes scratch evaluated 25 scratch evaluated
-evaluate-short finding order bytes scratch evaluated h =
-    record { made = λ m n. absurd (neither m n h); short = λ s. (refl, refl, refl) }
+pub evaluate-unread :
+    (finding order bytes scratch evaluated : List ℕ) (r : ℕ) → r ≡ evaluationUnread finding (length evaluated) → (r ≡ 0 → ⊥)
+    → EvaluateCall finding order bytes scratch evaluated r scratch evaluated
+evaluate-unread finding order bytes scratch evaluated r e some = record { made = λ m. absurd (some (e ∙ m)); refused = λ h. (e, refl, refl) }
 
 pub plan-made :
     (B size : ℕ) (plan : List ℕ) (p : Plan) (plan′ : List ℕ)
@@ -188,17 +195,17 @@ split-made raw B training lengths first second r lengths′ room f s e w =
 
 pub write-made :
     (finding order scratch out : List ℕ) (size : ℕ) (a : Written) (scratch′ out′ : List ℕ)
-    → 24 ≤ length finding
+    → findingUnread finding ≡ 0
     → Writes (findingRead finding) order scratch out a scratch′ out′
     → WriteCall finding order scratch out size (a .refusal) scratch′ out′ (a .length)
-write-made finding order scratch out size a scratch′ out′ room w = record { made = λ h. w; short = λ h. absurd (omega arith) }
+write-made finding order scratch out size a scratch′ out′ room w = record { made = λ h. w; refused = λ h. absurd (h room) }
 
-pub write-short : (finding order scratch out : List ℕ) (size : ℕ) → length finding < 24 → WriteCall finding order scratch out size 25 scratch out size
-write-short finding order scratch out size h = record { made = λ m. absurd (omega arith); short = λ s. (refl, refl, refl, refl) }
+pub write-unread : (finding order scratch out : List ℕ) (size r : ℕ) → r ≡ findingUnread finding → (r ≡ 0 → ⊥) → WriteCall finding order scratch out size r scratch out size
+write-unread finding order scratch out size r e some = record { made = λ m. absurd (some (e ∙ m)); refused = λ h. (e, refl, refl, refl) }
 
 pub read-made :
     (text order scratch finding : List ℕ) (a : Reading) (order′ scratch′ finding′ : List ℕ)
-    → 24 ≤ length finding
+    → 25 ≤ length finding
     → Reads text order scratch a order′ scratch′
     → finding′ ≡ written (findingNumbers (a .finding)) finding
     → ReadCall text order scratch finding (a .refusal) order′ scratch′ finding′
@@ -212,5 +219,5 @@ read-made text order scratch finding a order′ scratch′ finding′ room r f =
       short = λ h. absurd (omega arith);
     }
 
-pub read-short : (text order scratch finding : List ℕ) → length finding < 24 → ReadCall text order scratch finding 25 order scratch finding
+pub read-short : (text order scratch finding : List ℕ) → length finding < 25 → ReadCall text order scratch finding 25 order scratch finding
 read-short text order scratch finding h = record { made = λ m. absurd (omega arith); short = λ s. (refl, refl, refl, refl) }

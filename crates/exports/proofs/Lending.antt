@@ -7,6 +7,7 @@ use Prim.Native.Nat.{ℕ, zero, suc, _+_, _-_, _^_, _≤_, _<_, min}
 use native.Mathlib.Decide.{decLe}
 use native.Mathlib.Nat.{zero-add}
 use native.Mathlib.Omega.{arith}
+use lib.Dec.{eqb}
 use lib.ListN.{length, getD, take, drop, length-drop}
 use lib.Pow.{pow-mono, pow-pos}
 use lib.Seq.{length-take-le, getD-take}
@@ -37,7 +38,7 @@ use Rattle.exports.specs.Findings.{subsetRefusal, narrowed, Readable, Re
 
 -- ---- the bits
 
-pub bits-lent : (l : List ℕ) → getD l 1 0 ≤ 20 → 24 ≤ length l → length (take (getD l 1 0) (drop 4 l)) ≡ getD l 1 0
+pub bits-lent : (l : List ℕ) → getD l 1 0 ≤ 20 → 25 ≤ length l → length (take (getD l 1 0) (drop 4 l)) ≡ getD l 1 0
 bits-lent l w room =
     let long : getD l 1 0 ≤ length (drop 4 l) = omega (arith, length-drop 4 l) in
     length-take-le (getD l 1 0) (drop 4 l) long
@@ -47,7 +48,7 @@ bits-read l w =
     let e : getD l 1 0 ≡ min (getD l 1 0) 20 = omega arith in
     ap (λ (k : ℕ). padded (take k (drop 4 l))) e
 
-pub chosen-read : (l : List ℕ) → getD l 1 0 ≤ 20 → 24 ≤ length l → take (getD l 1 0) (drop 4 l) ≡ chosen (findingRead l)
+pub chosen-read : (l : List ℕ) → getD l 1 0 ≤ 20 → 25 ≤ length l → take (getD l 1 0) (drop 4 l) ≡ chosen (findingRead l)
 chosen-read l w room =
     sym (padded-front (getD l 1 0) (take (getD l 1 0) (drop 4 l)) (bits-lent l w room)) ∙ ap (take (getD l 1 0)) (bits-read l w)
 
@@ -56,7 +57,7 @@ pub part-is : (l : List ℕ) (k : ℕ) → take (4 + k - 4) (drop 4 l) ≡ take 
 part-is l k = let e : 4 + k - 4 ≡ k = omega arith in ap (λ (n : ℕ). take n (drop 4 l)) e
 
 -- a finding that is not refused by them can be read
-pub readable : (l : List ℕ) → 24 ≤ length l → subsetRefusal (findingRead l) ≡ 0 → Readable l
+pub readable : (l : List ℕ) → 25 ≤ length l → subsetRefusal (findingRead l) ≡ 0 → Readable l
 unfolding subsetRefusal
 readable l room e =
     let f = findingRead l in
@@ -85,7 +86,7 @@ drop-part (suc n) k (a ∷ l) = let e : suc n + k ≡ suc (n + k) = omega arith 
 
 pub reads-no-further : ReadsNoFurther
 unfolding ReadsNoFurther
-reads-no-further l m e =
+reads-no-further l m e order =
     let k : ℕ = min (getD l 1 0) 20 in
     let same : (i : ℕ) → i < 4 → getD l i 0 ≡ getD m i 0 = λ i h.
     let below : i < 4 + k = omega arith in
@@ -95,7 +96,7 @@ reads-no-further l m e =
     let division : getD l 2 0 ≡ getD m 2 0 = same 2 (omega arith) in
     let bits : take k (drop 4 l) ≡ take (min (getD m 1 0) 20) (drop 4 m) =
     sym (drop-part 4 k l) ∙ ap (drop 4) e ∙ drop-part 4 k m ∙ ap (λ (w : ℕ). take (min w 20) (drop 4 m)) width in
-    λ i. record { «block_size» = size i; width = width i; bits = padded (bits i); division = division i; z = zeroScore }
+    λ i. record { «block_size» = size i; width = width i; bits = padded (bits i); division = division i; z = zeroScore; «low_first» = eqb (order i) 1 }
 
 -- ---- the first that applies is that of the bits
 
@@ -153,7 +154,7 @@ large d m one h = let some : 1 ≤ d = omega arith in simp (le-leb 1 d some, le-
 held : (f : Finding) → f .division ≤ 4294967295 → narrowed f ≡ f
 held f h =
     let e : min (f .division) 4294967295 ≡ f .division = omega arith in
-    λ i. record { «block_size» = f .«block_size»; width = f .width; bits = f .bits; division = e i; z = f .z }
+    λ i. record { «block_size» = f .«block_size»; width = f .width; bits = f .bits; division = e i; z = f .z; «low_first» = f .«low_first» }
 
 module _ (f : Finding) (w : f .width ≤ 20) (above : 4294967295 < f .division) where
   bins : 2 ^ f .width ≤ 4294967295

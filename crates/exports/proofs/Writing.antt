@@ -49,6 +49,14 @@ three (x ∷ []) a b c h = absurd (omega arith)
 three (x ∷ y ∷ []) a b c h = absurd (omega arith)
 three (x ∷ y ∷ z ∷ l) a b c h = refl
 
+-- four stores are four numbers written
+pub four-stores : (l : List ℕ) (a b c d : ℕ) → 4 ≤ length l → set (set (set (set l 0 a) 1 b) 2 c) 3 d ≡ written (a ∷ b ∷ c ∷ d ∷ []) l
+four-stores [] a b c d h = absurd (omega arith)
+four-stores (x ∷ []) a b c d h = absurd (omega arith)
+four-stores (x ∷ y ∷ []) a b c d h = absurd (omega arith)
+four-stores (x ∷ y ∷ z ∷ []) a b c d h = absurd (omega arith)
+four-stores (x ∷ y ∷ z ∷ w ∷ l) a b c d h = refl
+
 -- four stores, and bits after them
 pub four :
     (l bits : List ℕ) (a b c d : ℕ)
@@ -62,6 +70,16 @@ four (x ∷ y ∷ z ∷ []) bits a b c d h = absurd (omega arith)
 four (x ∷ y ∷ z ∷ w ∷ l) bits a b c d h =
     let e : 4 + length bits ≡ suc (suc (suc (suc (length bits)))) = omega arith in
     ap (λ (n : ℕ). a ∷ b ∷ c ∷ d ∷ (bits ++ drop n (a ∷ b ∷ c ∷ d ∷ l))) e
+
+-- a store behind numbers that were written
+pub one-more : (s l : List ℕ) (v : ℕ) → length s < length l → set (written s l) (length s) v ≡ written (s ++ (v ∷ [])) l
+one-more s l v room =
+    let front : drop (length s) l ≡ getD l (length s) 0 ∷ drop (suc (length s)) l = drop-cons l (length s) 0 room in
+    let size : length (s ++ (v ∷ [])) ≡ suc (length s) = omega (arith, length-append s (v ∷ [])) in
+    ap (λ (t : List ℕ). set (s ++ t) (length s) v) front
+    ∙ set-at s (getD l (length s) 0) (drop (suc (length s)) l) v (length s) refl
+    ∙ sym (append-assoc s (v ∷ []) (drop (suc (length s)) l))
+    ∙ ap (λ (n : ℕ). (s ++ (v ∷ [])) ++ drop n l) (sym size)
 
 -- one store, and two lists of 7 after it
 pub plan-written :

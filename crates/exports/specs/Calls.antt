@@ -1,11 +1,10 @@
 -- What each exported function promises: what the function that it wraps answers and leaves, its records as numbers in lent slices.
--- Where a slice has no room for its record the number is 25, and nothing is called or written.
+-- Where a slice has no room for its record, or the record read has no bit order, the number is 25 or 27, and nothing is called or written.
 use mathlib.Core.Path.{_≡_}
 use Prim.Native.Nat.{ℕ, _≤_, _<_}
 use mathlib.Core.Bool.{Bool, cond}
 use mathlib.Core.List.{List, [], _∷_}
-use mathlib.Core.Logic.{_⊎_}
-use lib.Dec.{leb}
+use lib.Dec.{eqb}
 use lib.ListN.{length}
 use Rattle.counting.specs.Sampling.{startedOf, startedWords, blocksOf, fedOf, fedWords}
 use Rattle.counting.specs.Stretch.{stretchOf, stretchBit, span}
@@ -19,29 +18,29 @@ use Rattle.judging.specs.Plan.{planOf}
 use Rattle.judging.specs.Split.{splitRefusal, firstPart, secondPart}
 use Rattle.exchange.specs.Reader.{readText}
 use Rattle.exchange.specs.Exchange.{Writes, Reads, readingOf}
-use Rattle.exports.specs.Records.{samplerNumbers, samplerOf, findingNumbers, findingRead, evaluatedNumbers, planNumbers, written, shortRecord}
+use Rattle.exports.specs.Records.{samplerNumbers, samplerOf, findingNumbers, findingRead, evaluatedNumbers, planNumbers, written, shortRecord, samplerUnread, searchUnread, findingUnread, evaluationUnread}
 
 -- `start`, its sampler written to the slice
-pub record StartCall (B : ℕ) (ws sampler : List ℕ) (r : ℕ) (ws′ sampler′ : List ℕ) : Type 0 where
+pub record StartCall (B : ℕ) (low : Bool) (ws sampler : List ℕ) (r : ℕ) (ws′ sampler′ : List ℕ) : Type 0 where
   pub made :
-      3 ≤ length sampler
-      → (r ≡ startedOf B (length ws) .refusal)
+      4 ≤ length sampler
+      → (r ≡ startedOf B low (length ws) .refusal)
       × (ws′ ≡ startedWords B ws)
-      × (sampler′ ≡ written (samplerNumbers (startedOf B (length ws) .sampler)) sampler)
-  pub short : length sampler < 3 → (r ≡ shortRecord) × (ws′ ≡ ws) × (sampler′ ≡ sampler)
+      × (sampler′ ≡ written (samplerNumbers (startedOf B low (length ws) .sampler)) sampler)
+  pub short : length sampler < 4 → (r ≡ shortRecord) × (ws′ ≡ ws) × (sampler′ ≡ sampler)
 
 -- `feed`, the sampler read from the slice and the one it returns written there
 pub record FeedCall (sampler ws piece : List ℕ) (r : ℕ) (sampler′ ws′ : List ℕ) : Type 0 where
   pub made :
-      3 ≤ length sampler
+      samplerUnread sampler ≡ 0
       → (r ≡ fedOf (samplerOf sampler) (length ws) (length piece) .refusal)
       × (ws′ ≡ fedWords (samplerOf sampler) ws piece)
       × (sampler′ ≡ written (samplerNumbers (fedOf (samplerOf sampler) (length ws) (length piece) .sampler)) sampler)
-  pub short : length sampler < 3 → (r ≡ shortRecord) × (ws′ ≡ ws) × (sampler′ ≡ sampler)
+  pub refused : (samplerUnread sampler ≡ 0 → ⊥) → (r ≡ samplerUnread sampler) × (ws′ ≡ ws) × (sampler′ ≡ sampler)
 
--- n of the sampler read from the slice; 0 where the slice is too short for one
+-- n of the sampler read from the slice; 0 where it holds none
 unfoldable pub blocksCall : List ℕ → ℕ
-blocksCall sampler = cond (leb 3 (length sampler)) (blocksOf (samplerOf sampler)) 0
+blocksCall sampler = cond (eqb (samplerUnread sampler) 0) (blocksOf (samplerOf sampler)) 0
 
 -- the answer a: its refusal r returned, its finding written
 pub record Answered (a : Searched) (finding : List ℕ) (r : ℕ) (finding′ : List ℕ) : Type 0 where
@@ -52,7 +51,7 @@ pub record Answered (a : Searched) (finding : List ℕ) (r : ℕ) (finding′ : 
 abbrev pub stretchAnswer : ℕ → Sampler → List ℕ → ℕ → ℕ → ℕ → Searched
 stretchAnswer r s ws first end k =
     let x = stretchOf s (length ws) first end in
-    answerOf r (stretchBit x ws) (span x) (s .«block_size») k
+    answerOf r (s .«low_first») (stretchBit x ws) (span x) (s .«block_size») k
 
 -- what the direct search answers
 abbrev pub directAnswer : Sampler → List ℕ → ℕ → ℕ → ℕ → List ℕ → List ℕ → Searched
@@ -62,11 +61,10 @@ directAnswer s ws first end k bins order =
 -- `brute_force_threads`, the sampler read from one slice and the finding written to another
 pub record DirectCall (sampler ws : List ℕ) (first end k : ℕ) (bins order finding : List ℕ) (r : ℕ) (bins′ order′ finding′ : List ℕ) : Type 0 where
   pub made :
-      3 ≤ length sampler
-      → 24 ≤ length finding
+      searchUnread sampler (length finding) ≡ 0
       → DirectSearch (samplerOf sampler) ws first end k bins order (directAnswer (samplerOf sampler) ws first end k bins order) bins′ order′
       × Answered (directAnswer (samplerOf sampler) ws first end k bins order) finding r finding′
-  pub short : (length sampler < 3) ⊎ (length finding < 24) → (r ≡ shortRecord) × (bins′ ≡ bins) × (order′ ≡ order) × (finding′ ≡ finding)
+  pub refused : (searchUnread sampler (length finding) ≡ 0 → ⊥) → (r ≡ searchUnread sampler (length finding)) × (bins′ ≡ bins) × (order′ ≡ order) × (finding′ ≡ finding)
 
 -- what the layered search answers
 abbrev pub layeredAnswer : Sampler → List ℕ → ℕ → ℕ → ℕ → List ℕ → List ℕ → List ℕ → List ℕ → Searched
@@ -76,43 +74,41 @@ layeredAnswer s ws first end k lower upper bins order =
 -- `brute_force`, in the same way
 pub record LayeredCall (sampler ws : List ℕ) (first end k : ℕ) (lower upper bins order finding : List ℕ) (r : ℕ) (lower′ upper′ bins′ order′ finding′ : List ℕ) : Type 0 where
   pub made :
-      3 ≤ length sampler
-      → 24 ≤ length finding
+      searchUnread sampler (length finding) ≡ 0
       → LayeredSearch (samplerOf sampler) ws first end k lower upper bins order (layeredAnswer (samplerOf sampler) ws first end k lower upper bins order) lower′ upper′ bins′ order′
       × Answered (layeredAnswer (samplerOf sampler) ws first end k lower upper bins order) finding r finding′
-  pub short :
-      (length sampler < 3) ⊎ (length finding < 24)
-      → (r ≡ shortRecord) × (lower′ ≡ lower) × (upper′ ≡ upper) × (bins′ ≡ bins) × (order′ ≡ order) × (finding′ ≡ finding)
+  pub refused :
+      (searchUnread sampler (length finding) ≡ 0 → ⊥)
+      → (r ≡ searchUnread sampler (length finding)) × (lower′ ≡ lower) × (upper′ ≡ upper) × (bins′ ≡ bins) × (order′ ≡ order) × (finding′ ≡ finding)
 
 -- `validate`, the finding read from the slice
 pub record CheckCall (finding order scratch : List ℕ) (r : ℕ) (scratch′ : List ℕ) : Type 0 where
   pub made :
-      24 ≤ length finding
+      findingUnread finding ≡ 0
       → (r ≡ checkRefusal (findingRead finding) order (length scratch)) × (scratch′ ≡ checkedScratch (findingRead finding) (length order) scratch)
-  pub short : length finding < 24 → (r ≡ shortRecord) × (scratch′ ≡ scratch)
+  pub refused : (findingUnread finding ≡ 0 → ⊥) → (r ≡ findingUnread finding) × (scratch′ ≡ scratch)
 
 -- `evaluate_histogram`, the finding read from one slice and the evaluation's 3 numbers written to another
 pub record EvaluateCall (finding order bytes scratch evaluated : List ℕ) (r : ℕ) (scratch′ evaluated′ : List ℕ) : Type 0 where
   pub made :
-      24 ≤ length finding
-      → 3 ≤ length evaluated
+      evaluationUnread finding (length evaluated) ≡ 0
       → (r ≡ evaluatedOf (findingRead finding) order bytes (length scratch) .refusal)
       × (scratch′ ≡ evaluatedScratch (findingRead finding) order bytes scratch)
       × (evaluated′ ≡ written (evaluatedNumbers (evaluatedOf (findingRead finding) order bytes (length scratch))) evaluated)
-  pub short : (length finding < 24) ⊎ (length evaluated < 3) → (r ≡ shortRecord) × (scratch′ ≡ scratch) × (evaluated′ ≡ evaluated)
+  pub refused : (evaluationUnread finding (length evaluated) ≡ 0 → ⊥) → (r ≡ evaluationUnread finding (length evaluated)) × (scratch′ ≡ scratch) × (evaluated′ ≡ evaluated)
 
 -- `write_finding`, the finding read from the slice, and the length of the text written to a number
 pub record WriteCall (finding order scratch out : List ℕ) (size r : ℕ) (scratch′ out′ : List ℕ) (size′ : ℕ) : Type 0 where
-  pub made : 24 ≤ length finding → Writes (findingRead finding) order scratch out (record { refusal = r; length = size′ }) scratch′ out′
-  pub short : length finding < 24 → (r ≡ shortRecord) × (scratch′ ≡ scratch) × (out′ ≡ out) × (size′ ≡ size)
+  pub made : findingUnread finding ≡ 0 → Writes (findingRead finding) order scratch out (record { refusal = r; length = size′ }) scratch′ out′
+  pub refused : (findingUnread finding ≡ 0 → ⊥) → (r ≡ findingUnread finding) × (scratch′ ≡ scratch) × (out′ ≡ out) × (size′ ≡ size)
 
 -- `read_finding`, the finding written to the slice
 pub record ReadCall (text order scratch finding : List ℕ) (r : ℕ) (order′ scratch′ finding′ : List ℕ) : Type 0 where
   pub made :
-      24 ≤ length finding
+      25 ≤ length finding
       → let a = readingOf (readText text) (length order) (length scratch) in
       Reads text order scratch a order′ scratch′ × (r ≡ a .refusal) × (finding′ ≡ written (findingNumbers (a .finding)) finding)
-  pub short : length finding < 24 → (r ≡ shortRecord) × (order′ ≡ order) × (scratch′ ≡ scratch) × (finding′ ≡ finding)
+  pub short : length finding < 25 → (r ≡ shortRecord) × (order′ ≡ order) × (scratch′ ≡ scratch) × (finding′ ≡ finding)
 
 -- the split: the lengths of both parts of the raw bytes, which lie one after the other from the first byte on
 pub record SplitCall (raw : List ℕ) (B : ℕ) (training : Bool) (lengths : List ℕ) (r : ℕ) (lengths′ : List ℕ) : Type 0 where

@@ -16,15 +16,15 @@ subsetRefusal f = orElse (limitRefusal f) (bitsRefusal (f .«block_size») (chos
 
 -- the finding with a division that 32 bits hold: the largest where it is larger, since 14 refuses both
 abbrev pub narrowed : Finding → Finding
-narrowed f = record { «block_size» = f .«block_size»; width = f .width; bits = f .bits; division = min (f .division) 4294967295; z = f .z }
+narrowed f = record { «block_size» = f .«block_size»; width = f .width; bits = f .bits; division = min (f .division) 4294967295; z = f .z; «low_first» = f .«low_first» }
 
 -- numbers that a finding can be read from: the width is at most 20, and each bit up to it fits 32 bits
 pub record Readable (l : List ℕ) : Type 0 where
-  pub room : 24 ≤ length l
+  pub room : 25 ≤ length l
   pub width : getD l 1 0 ≤ 20
   pub small : Below 4294967296 (take (getD l 1 0) (drop 4 l))
 
--- Theorem: what stands past the bits of the width is not read.
+-- Theorem: of the bit entries, what stands past the width is not read.
 unfoldable pub ReadsNoFurther : Type 0
 ReadsNoFurther =
-    (l m : List ℕ) → take (4 + min (getD l 1 0) 20) l ≡ take (4 + min (getD l 1 0) 20) m → findingRead l ≡ findingRead m
+    (l m : List ℕ) → take (4 + min (getD l 1 0) 20) l ≡ take (4 + min (getD l 1 0) 20) m → getD l 24 0 ≡ getD m 24 0 → findingRead l ≡ findingRead m

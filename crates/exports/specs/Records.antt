@@ -1,6 +1,8 @@
 -- Records as numbers in a lent slice.
 use Prim.Native.Nat.{ℕ, min}
+use mathlib.Core.Bool.{Bool, cond}
 use mathlib.Core.List.{List, [], _∷_, _++_}
+use lib.Dec.{leb, eqb}
 use lib.Ieee.{binary64, toBits}
 use lib.ListN.{length, getD, take, drop}
 use Rattle.counting.specs.declared.sampling.Sampler.{Sampler}
@@ -12,17 +14,21 @@ use Rattle.judging.specs.declared.evaluation.Score.{Score}
 use Rattle.judging.specs.declared.evaluation.Score.the-variants.{Z, NoSample}
 use Rattle.judging.specs.declared.plan.Plan.{Plan}
 
--- a sampler: its block size, its number of words, the bytes taken
+-- a bit order: 1 where the low bit comes first, 0 where the high bit does
+abbrev pub orderNumber : Bool → ℕ
+orderNumber low = cond low 1 0
+
+-- a sampler: its block size, its number of words, the bytes taken, its bit order
 abbrev pub samplerNumbers : Sampler → List ℕ
-samplerNumbers s = s .«block_size» ∷ s .words ∷ s .taken ∷ []
+samplerNumbers s = s .«block_size» ∷ s .words ∷ s .taken ∷ orderNumber (s .«low_first») ∷ []
 
 -- the sampler whose numbers stand first
 abbrev pub samplerOf : List ℕ → Sampler
-samplerOf l = record { «block_size» = getD l 0 0; words = getD l 1 0; taken = getD l 2 0 }
+samplerOf l = record { «block_size» = getD l 0 0; words = getD l 1 0; taken = getD l 2 0; «low_first» = eqb (getD l 3 0) 1 }
 
--- a finding: its block size, width, division, the bits of its z as a double, and its 20 bit entries
+-- a finding: its block size, width, division, the bits of its z as a double, its 20 bit entries, its bit order
 abbrev pub findingNumbers : Finding → List ℕ
-findingNumbers f = f .«block_size» ∷ f .width ∷ f .division ∷ toBits binary64 (f .z) ∷ f .bits
+findingNumbers f = f .«block_size» ∷ f .width ∷ f .division ∷ toBits binary64 (f .z) ∷ (f .bits ++ (orderNumber (f .«low_first») ∷ []))
 
 -- a lent slice after numbers were written to its front: the rest is as lent
 abbrev pub written : List ℕ → List ℕ → List ℕ
@@ -31,6 +37,26 @@ written numbers lent = numbers ++ drop (length numbers) lent
 -- the number, outside the rules', of a lent record that is too short: nothing is then called or written
 abbrev pub shortRecord : ℕ
 shortRecord = 25
+
+-- 27, also outside the rules': the number for a record's bit order is neither 0 nor 1, so that it is no record
+abbrev pub bitOrderRefusal : ℕ → ℕ
+bitOrderRefusal n = cond (leb n 1) 0 27
+
+-- a slice that a sampler is read from: 25, 27
+unfoldable pub samplerUnread : List ℕ → ℕ
+samplerUnread l = cond (leb 4 (length l)) (bitOrderRefusal (getD l 3 0)) shortRecord
+
+-- .. and a slice of `room` numbers that a finding is written to: 25 of either, 27
+unfoldable pub searchUnread : List ℕ → ℕ → ℕ
+searchUnread l room = cond (leb 25 room) (samplerUnread l) shortRecord
+
+-- a slice that a finding is read from: 25, 27
+unfoldable pub findingUnread : List ℕ → ℕ
+findingUnread l = cond (leb 25 (length l)) (bitOrderRefusal (getD l 24 0)) shortRecord
+
+-- .. and a slice of `room` numbers that an evaluation is written to: 25 of either, 27
+unfoldable pub evaluationUnread : List ℕ → ℕ → ℕ
+evaluationUnread l room = cond (leb 3 room) (findingUnread l) shortRecord
 
 -- the finding whose numbers stand first, each as it stands. Bit entries past the width are not read and taken as 0; so is z, which judging does not use
 abbrev pub findingRead : List ℕ → Finding
@@ -41,6 +67,7 @@ findingRead l =
       bits = padded (take (min (getD l 1 0) 20) (drop 4 l));
       division = getD l 2 0;
       z = zeroScore;
+      «low_first» = eqb (getD l 24 0) 1;
     }
 
 -- a score's case: 1 where it is a number, 0 for "no sample"

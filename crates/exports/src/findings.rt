@@ -24,7 +24,7 @@ use subsets::bits::valid_width;
 
 // The check of the finding whose numbers stand first. Refusals 1, 2, 9, 10, 11, 7, 13, 14.
 pub fn validate_lent(numbers: &[u64], order: &[u32], scratch: &mut [u32]) -> u32
-    requires { ⌜ 24 ≤ length (now numbers) ⌝ }
+    requires { ⌜ 25 ≤ length (now numbers) ⌝ }
     ensures { λ r. ⌜ r ≡ checkRefusal (findingRead (now (numbers .entry))) (now (order .entry)) (length (now (scratch .entry))) ⌝ }
     ensures { λ _. ⌜ now (scratch .exit) ≡ checkedScratch (findingRead (now (numbers .entry))) (length (now (order .entry))) (now (scratch .entry)) ⌝ }
 {
@@ -37,7 +37,7 @@ pub fn validate_lent(numbers: &[u64], order: &[u32], scratch: &mut [u32]) -> u32
 
 // The evaluation of the finding whose numbers stand first. Refusals 1, 2, 9, 10, 11, 12, 7, 13, 14.
 pub fn evaluate_lent(numbers: &[u64], order: &[u32], bytes: &[u8], scratch: &mut [u32]) -> Evaluated
-    requires { ⌜ 24 ≤ length (now numbers) ⌝ }
+    requires { ⌜ 25 ≤ length (now numbers) ⌝ }
     ensures { λ r. ⌜ r ≡ evaluatedOf (findingRead (now (numbers .entry))) (now (order .entry)) (now (bytes .entry)) (length (now (scratch .entry))) ⌝ }
     ensures { λ _. ⌜ now (scratch .exit) ≡ evaluatedScratch (findingRead (now (numbers .entry))) (now (order .entry)) (now (bytes .entry)) (now (scratch .entry)) ⌝ }
 {
@@ -50,7 +50,7 @@ pub fn evaluate_lent(numbers: &[u64], order: &[u32], bytes: &[u8], scratch: &mut
 
 // The finding whose numbers stand first, written with its order as text. Refusals 1, 2, 9, 10, 11, 7, 13, 14, 17.
 pub fn write_lent(numbers: &[u64], order: &[u32], scratch: &mut [u32], out: &mut [u8]) -> Written
-    requires { ⌜ 24 ≤ length (now numbers) ⌝ }
+    requires { ⌜ 25 ≤ length (now numbers) ⌝ }
     ensures { λ r. ⌜ Writes (findingRead (now (numbers .entry))) (now (order .entry)) (now (scratch .entry)) (now (out .entry)) r (now (scratch .exit)) (now (out .exit)) ⌝ }
 {
     let refusal = subset_refusal(numbers);
@@ -74,7 +74,7 @@ fn refused(refusal: u32) -> Evaluated
 
 // 1, 2, 9, 10, or 0 where the bits are a subset of the block.
 fn subset_refusal(numbers: &[u64]) -> u32
-    requires { ⌜ 24 ≤ length (now numbers) ⌝ }
+    requires { ⌜ 25 ≤ length (now numbers) ⌝ }
     ensures { λ r. ⌜ r ≡ subsetRefusal (findingRead (now (numbers .entry))) ⌝ }
 {
     let block_size = numbers[0] as usize;
@@ -142,6 +142,7 @@ fn read_finding(numbers: &[u64]) -> Finding
         bits,
         division: narrow(numbers[2]),
         z: 0.0,
+        low_first: numbers[24] == 1,
     }
 }
 

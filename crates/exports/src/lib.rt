@@ -1,5 +1,6 @@
 // The calls for hosts in other languages: numbers and slices only. A slice passes as its address and its number of entries.
-// A sampler is 3 numbers in a lent slice, a finding 24 (`specs/Records.antt`); a slice too short for its record is answered with 25, and nothing is written.
+// A sampler is 4 numbers in a lent slice, a finding 25 (`specs/Records.antt`); a slice too short for its record is answered with 25, a record whose number
+// for the bit order is neither 0 nor 1 with 27, and nothing is written.
 ghost use mathlib.Core.Path.{_≡_};
 ghost use lib.ListN.{length};
 ghost use Rattle.subsets.specs.Rank.{rankedOf};
@@ -9,9 +10,13 @@ ghost use Rattle.exports.specs.Single.{RankingCall};
 use crate::findings::evaluate_lent;
 use crate::findings::validate_lent;
 use crate::findings::write_lent;
+use crate::records::evaluation_unread;
+use crate::records::finding_unread;
 use crate::records::pattern;
 use crate::records::rank_of;
 use crate::records::read_sampler;
+use crate::records::sampler_unread;
+use crate::records::search_unread;
 use crate::records::write_evaluated;
 use crate::records::write_finding;
 use crate::records::write_plan;
@@ -36,44 +41,50 @@ mod findings;
 mod records;
 mod single;
 
-// start: clears the words and writes a fresh sampler. Refusals 25, 1.
+// start: clears the words and writes a fresh sampler in the given bit order. Refusals 25, 1.
 #[no_mangle]
-pub extern "C" fn jimrawel_start(block_size: usize, words: &mut [u64], sampler: &mut [u64]) -> u32
-    ensures { λ r. ⌜ StartCall «block_size» (now (words .entry)) (now (sampler .entry)) r (now (words .exit)) (now (sampler .exit)) ⌝ }
+pub extern "C" fn jimrawel_start(
+    block_size: usize,
+    low_first: bool,
+    words: &mut [u64],
+    sampler: &mut [u64],
+) -> u32
+    ensures { λ r. ⌜ StartCall «block_size» «low_first» (now (words .entry)) (now (sampler .entry)) r (now (words .exit)) (now (sampler .exit)) ⌝ }
 {
-    if sampler.len() < 3 {
+    if sampler.len() < 4 {
         return 25;
     }
-    let started = start(block_size, words);
+    let started = start(block_size, low_first, words);
     write_sampler(started.sampler, sampler);
     started.refusal
 }
 
-// feed: takes the next piece; the sampler that it returns is in the place of the one given. Refusals 25, 4, 5.
+// feed: takes the next piece; the sampler that it returns is in the place of the one given. Refusals 25, 27, 4, 5.
 #[no_mangle]
 pub extern "C" fn jimrawel_feed(sampler: &mut [u64], words: &mut [u64], piece: &[u8]) -> u32
     ensures { λ r. ⌜ FeedCall (now (sampler .entry)) (now (words .entry)) (now (piece .entry)) r (now (sampler .exit)) (now (words .exit)) ⌝ }
 {
-    if sampler.len() < 3 {
-        return 25;
+    let unread = sampler_unread(sampler);
+    if unread != 0 {
+        return unread;
     }
     let fed = feed(read_sampler(sampler), words, piece);
     write_sampler(fed.sampler, sampler);
     fed.refusal
 }
 
-// n: the whole blocks that the sampler has taken; 0 where the slice is too short for one.
+// n: the whole blocks that the sampler has taken; 0 where the slice holds none.
 #[no_mangle]
 pub extern "C" fn jimrawel_blocks(sampler: &[u64]) -> usize
     ensures { λ r. ⌜ r ≡ blocksCall (now (sampler .entry)) ⌝ }
 {
-    if sampler.len() < 3 {
+    if sampler_unread(sampler) != 0 {
         return 0;
     }
     blocks(read_sampler(sampler))
 }
 
-// The direct search of the blocks from `first` to before `end`. Refusals 25, 4, 18, 2, 3, 7.
+// The direct search of the blocks from `first` to before `end`. Refusals 25, 27, 4, 18, 2, 3, 7.
 #[no_mangle]
 pub extern "C" fn jimrawel_brute_force_threads(
     sampler: &[u64],
@@ -87,18 +98,16 @@ pub extern "C" fn jimrawel_brute_force_threads(
 ) -> u32
     ensures { λ r. ⌜ DirectCall (now (sampler .entry)) (now (words .entry)) first end k (now (bins .entry)) (now (order .entry)) (now (finding .entry)) r (now (bins .exit)) (now (order .exit)) (now (finding .exit)) ⌝ }
 {
-    if sampler.len() < 3 {
-        return 25;
-    }
-    if finding.len() < 24 {
-        return 25;
+    let unread = search_unread(sampler, finding.len());
+    if unread != 0 {
+        return unread;
     }
     let searched = brute_force_threads(read_sampler(sampler), words, first, end, k, bins, order);
     write_finding(searched.finding, finding);
     searched.refusal
 }
 
-// The layered search of these blocks. Refusals 25, 4, 18, 2, 3, 6, 7.
+// The layered search of these blocks. Refusals 25, 27, 4, 18, 2, 3, 6, 7.
 #[no_mangle]
 pub extern "C" fn jimrawel_brute_force(
     sampler: &[u64],
@@ -114,11 +123,9 @@ pub extern "C" fn jimrawel_brute_force(
 ) -> u32
     ensures { λ r. ⌜ LayeredCall (now (sampler .entry)) (now (words .entry)) first end k (now (lower .entry)) (now (upper .entry)) (now (bins .entry)) (now (order .entry)) (now (finding .entry)) r (now (lower .exit)) (now (upper .exit)) (now (bins .exit)) (now (order .exit)) (now (finding .exit)) ⌝ }
 {
-    if sampler.len() < 3 {
-        return 25;
-    }
-    if finding.len() < 24 {
-        return 25;
+    let unread = search_unread(sampler, finding.len());
+    if unread != 0 {
+        return unread;
     }
     let searched = brute_force(
         read_sampler(sampler),
@@ -167,18 +174,19 @@ pub extern "C" fn jimrawel_from_bins(
     0
 }
 
-// The check of a finding and its bin order. Refusals 25, 1, 2, 9, 10, 11, 7, 13, 14.
+// The check of a finding and its bin order. Refusals 25, 27, 1, 2, 9, 10, 11, 7, 13, 14.
 #[no_mangle]
 pub extern "C" fn jimrawel_validate(finding: &[u64], order: &[u32], scratch: &mut [u32]) -> u32
     ensures { λ r. ⌜ CheckCall (now (finding .entry)) (now (order .entry)) (now (scratch .entry)) r (now (scratch .exit)) ⌝ }
 {
-    if finding.len() < 24 {
-        return 25;
+    let unread = finding_unread(finding);
+    if unread != 0 {
+        return unread;
     }
     validate_lent(finding, order, scratch)
 }
 
-// A finding on data. Refusals 25, 1, 2, 9, 10, 11, 12, 7, 13, 14.
+// A finding on data. Refusals 25, 27, 1, 2, 9, 10, 11, 12, 7, 13, 14.
 #[no_mangle]
 pub extern "C" fn jimrawel_evaluate_histogram(
     finding: &[u64],
@@ -189,18 +197,16 @@ pub extern "C" fn jimrawel_evaluate_histogram(
 ) -> u32
     ensures { λ r. ⌜ EvaluateCall (now (finding .entry)) (now (order .entry)) (now (bytes .entry)) (now (scratch .entry)) (now (evaluated .entry)) r (now (scratch .exit)) (now (evaluated .exit)) ⌝ }
 {
-    if finding.len() < 24 {
-        return 25;
-    }
-    if evaluated.len() < 3 {
-        return 25;
+    let unread = evaluation_unread(finding, evaluated.len());
+    if unread != 0 {
+        return unread;
     }
     let answer = evaluate_lent(finding, order, bytes, scratch);
     write_evaluated(answer, evaluated);
     answer.refusal
 }
 
-// Writes a finding and its bin order as text. Refusals 25, 1, 2, 9, 10, 11, 7, 13, 14, 17.
+// Writes a finding and its bin order as text. Refusals 25, 27, 1, 2, 9, 10, 11, 7, 13, 14, 17.
 #[no_mangle]
 pub extern "C" fn jimrawel_write_finding(
     finding: &[u64],
@@ -211,8 +217,9 @@ pub extern "C" fn jimrawel_write_finding(
 ) -> u32
     ensures { λ r. ⌜ WriteCall (now (finding .entry)) (now (order .entry)) (now (scratch .entry)) (now (out .entry)) (now (length .entry)) r (now (scratch .exit)) (now (out .exit)) (now (length .exit)) ⌝ }
 {
-    if finding.len() < 24 {
-        return 25;
+    let unread = finding_unread(finding);
+    if unread != 0 {
+        return unread;
     }
     let written = write_lent(finding, order, scratch, out);
     *length = written.length;
@@ -229,7 +236,7 @@ pub extern "C" fn jimrawel_read_finding(
 ) -> u32
     ensures { λ r. ⌜ ReadCall (now (text .entry)) (now (order .entry)) (now (scratch .entry)) (now (finding .entry)) r (now (order .exit)) (now (scratch .exit)) (now (finding .exit)) ⌝ }
 {
-    if finding.len() < 24 {
+    if finding.len() < 25 {
         return 25;
     }
     let reading = read_finding(text, order, scratch);

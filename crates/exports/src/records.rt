@@ -5,7 +5,7 @@ ghost use mathlib.Core.List.{_++_};
 ghost use lib.Ieee.{binary64, toBits};
 ghost use lib.ListN.{length, take, drop, replicate};
 ghost use Rattle.subsets.specs.Rank.{rankedOf};
-ghost use Rattle.exports.specs.Records.{samplerOf, samplerNumbers, findingNumbers, scoreCase, scoreBits, evaluatedNumbers, planNumbers, written};
+ghost use Rattle.exports.specs.Records.{orderNumber, samplerOf, samplerNumbers, findingNumbers, scoreCase, scoreBits, evaluatedNumbers, planNumbers, written, samplerUnread, searchUnread, findingUnread, evaluationUnread};
 use counting::sampling::Sampler;
 use judging::evaluation::Evaluated;
 use judging::evaluation::Score;
@@ -14,31 +14,86 @@ use searching::finding::Finding;
 use subsets::rank::Ranked;
 use subsets::rank::compute_index;
 
+// 25, 27, or 0 where a sampler can be read from the slice.
+pub fn sampler_unread(numbers: &[u64]) -> u32
+    ensures { λ r. ⌜ r ≡ samplerUnread (now (numbers .entry)) ⌝ }
+{
+    if numbers.len() < 4 {
+        return 25;
+    }
+    if numbers[3] > 1 {
+        return 27;
+    }
+    0
+}
+
+// 25, 27, or 0 where a sampler can be read from the slice and a finding written to one of `room` numbers.
+pub fn search_unread(numbers: &[u64], room: usize) -> u32
+    ensures { λ r. ⌜ r ≡ searchUnread (now (numbers .entry)) room ⌝ }
+{
+    if room < 25 {
+        return 25;
+    }
+    sampler_unread(numbers)
+}
+
+// 25, 27, or 0 where a finding can be read from the slice.
+pub fn finding_unread(numbers: &[u64]) -> u32
+    ensures { λ r. ⌜ r ≡ findingUnread (now (numbers .entry)) ⌝ }
+{
+    if numbers.len() < 25 {
+        return 25;
+    }
+    if numbers[24] > 1 {
+        return 27;
+    }
+    0
+}
+
+// 25, 27, or 0 where a finding can be read from the slice and an evaluation written to one of `room` numbers.
+pub fn evaluation_unread(numbers: &[u64], room: usize) -> u32
+    ensures { λ r. ⌜ r ≡ evaluationUnread (now (numbers .entry)) room ⌝ }
+{
+    if room < 3 {
+        return 25;
+    }
+    finding_unread(numbers)
+}
+
 // The sampler whose numbers stand first in the slice.
 pub fn read_sampler(numbers: &[u64]) -> Sampler
-    requires { ⌜ 3 ≤ length (now numbers) ⌝ }
+    requires { ⌜ 4 ≤ length (now numbers) ⌝ }
     ensures { λ r. ⌜ r ≡ samplerOf (now (numbers .entry)) ⌝ }
 {
     Sampler {
         block_size: numbers[0] as usize,
         words: numbers[1] as usize,
         taken: numbers[2] as usize,
+        low_first: numbers[3] == 1,
     }
 }
 
 // Puts the sampler's numbers first.
 pub fn write_sampler(sampler: Sampler, numbers: &mut [u64])
-    requires { ⌜ 3 ≤ length (now numbers) ⌝ }
+    requires { ⌜ 4 ≤ length (now numbers) ⌝ }
     ensures { λ _. ⌜ now (numbers .exit) ≡ written (samplerNumbers sampler) (now (numbers .entry)) ⌝ }
 {
     numbers[0] = sampler.block_size as u64;
     numbers[1] = sampler.words as u64;
     numbers[2] = sampler.taken as u64;
+    numbers[3] = order_number(sampler.low_first);
+}
+
+// 1 where the low bit comes first, else 0.
+fn order_number(low_first: bool) -> u64
+    ensures { λ r. ⌜ r ≡ orderNumber «low_first» ⌝ }
+{
+    if low_first { 1 } else { 0 }
 }
 
 // Puts the finding's numbers first.
 pub fn write_finding(finding: Finding, numbers: &mut [u64])
-    requires { ⌜ 24 ≤ length (now numbers) ⌝ }
+    requires { ⌜ 25 ≤ length (now numbers) ⌝ }
     ensures { λ _. ⌜ now (numbers .exit) ≡ written (findingNumbers finding) (now (numbers .entry)) ⌝ }
 {
     numbers[0] = finding.block_size as u64;
@@ -47,6 +102,7 @@ pub fn write_finding(finding: Finding, numbers: &mut [u64])
     numbers[3] = pattern(finding.z);
     let bits = finding.bits;
     write_bits(&bits[..], numbers);
+    numbers[24] = order_number(finding.low_first);
 }
 
 // Puts the bits after the first four numbers.

@@ -1,6 +1,6 @@
 -- A finding evaluated on the recording that it was found in (`findings-agree`), and so after every acquisition (`all-agree`).
 use mathlib.Core.Path.{_≡_, refl, sym, ap, _∙_, subst}
-use mathlib.Core.Bool.{true}
+use mathlib.Core.Bool.{Bool, true}
 use mathlib.Core.List.{List}
 use Prim.Native.Nat.{ℕ, _^_, _≤_, _<_}
 use native.Mathlib.Nat.{le-trans, min-le-right}
@@ -42,9 +42,9 @@ valid-width : (k : ℕ) → 1 ≤ k → k ≤ 20 → validWidth k ≡ true
 unfolding validWidth
 valid-width k low high = rw (le-leb 1 k low, le-leb k 20 high) refl
 
-module _ (B : ℕ) (held : List ℕ) (k : ℕ) (f : Finding) (bins order : List ℕ) (scratch : ℕ)
+module _ (B : ℕ) (low : Bool) (held : List ℕ) (k : ℕ) (f : Finding) (bins order : List ℕ) (scratch : ℕ)
     (W : validSize B ≡ true) (K : 1 ≤ k) (L : k ≤ 20) (M : blocksIn B held ≤ 16777216) (S : 2 ^ k ≤ scratch)
-    (best : BestOf B held k f bins order) where
+    (best : BestOf B low held k f bins order) where
   abbrev counts : List ℕ
   counts = take (2 ^ k) bins
 
@@ -52,11 +52,11 @@ module _ (B : ℕ) (held : List ℕ) (k : ℕ) (f : Finding) (bins order : List 
   order′ = take (2 ^ k) order
 
   counted : countsIn f held ≡ counts
-  counted = rw (best .block, best .width) (sym (best .counted))
+  counted = rw (best .block, best .width, best .bitOrder) (sym (best .counted))
 
   counts-length : length counts ≡ 2 ^ k
   counts-length =
-      ap length (best .counted) ∙ length-counts (recordedBit B held) (blocksIn B held) (take k (f .bits)) ∙ ap (λ (w : ℕ). 2 ^ w) (best .chosen .size)
+      ap length (best .counted) ∙ length-counts (recordedBit B low held) (blocksIn B held) (take k (f .bits)) ∙ ap (λ (w : ℕ). 2 ^ w) (best .chosen .size)
 
   listed : length order′ ≡ 2 ^ k
   listed = ap length (best .ordered) ∙ order-length counts ∙ counts-length
@@ -76,9 +76,9 @@ module _ (B : ℕ) (held : List ℕ) (k : ℕ) (f : Finding) (bins order : List 
   order-none : orderRefusal (f .width) (f .division) order′ ≡ 0
   unfolding orderRefusal divisionRefusal
   order-none =
-      let low : 1 ≤ f .division = rw (best .division) (score-low (blocksIn B held) k counts) in
+      let least : 1 ≤ f .division = rw (best .division) (score-low (blocksIn B held) k counts) in
       let high : f .division < 2 ^ k = rw (best .division) (score-high (blocksIn B held) k counts K) in
-      rw (best .width, once, le-leb 1 (f .division) low, lt-ltb (f .division) (2 ^ k) high) refl
+      rw (best .width, once, le-leb 1 (f .division) least, lt-ltb (f .division) (2 ^ k) high) refl
 
   none : evaluationRefusal f order′ held scratch ≡ 0
   unfolding evaluationRefusal earlyEvaluationRefusal blocksRefusal scratchRefusal
@@ -101,43 +101,43 @@ module _ (B : ℕ) (held : List ℕ) (k : ℕ) (f : Finding) (bins order : List 
       ∙ ap (sizeAt n k (inBinOrder counts)) (best .division) ∙ sym (r .attained) ∙ sym (best .z)
 
 pub findings-agree : FindingsAgree
-findings-agree B held k f bins order scratch W K L M S best =
+findings-agree B low held k f bins order scratch W K L M S best =
     record {
-      taken = none B held k f bins order scratch W K L M S best;
-      counts = counted B held k f bins order scratch W K L M S best;
-      positive = summed B held k f bins order scratch W K L M S best;
-      score = scored B held k f bins order scratch W K L M S best;
+      taken = none B low held k f bins order scratch W K L M S best;
+      counts = counted B low held k f bins order scratch W K L M S best;
+      positive = summed B low held k f bins order scratch W K L M S best;
+      score = scored B low held k f bins order scratch W K L M S best;
     }
 
 -- ---- after an acquisition
 
-module _ (B : ℕ) (ws : List ℕ) (pieces : List (List ℕ)) (answers : List ℕ) (s : Sampler) (ws′ : List ℕ) (acquired : Acquisition B ws pieces answers s ws′) where
+module _ (B : ℕ) (low : Bool) (ws : List ℕ) (pieces : List (List ℕ)) (answers : List ℕ) (s : Sampler) (ws′ : List ℕ) (acquired : Acquisition B low ws pieces answers s ws′) where
   abbrev held : List ℕ
   held = recording B (length ws) pieces
 
   -- the stretch of a search that is not refused
   searched-agrees : (d first end k : ℕ) (bins order : List ℕ) (r : Searched) (bins′ order′ : List ℕ) → StretchSearch d s ws′ first end k bins order r bins′ order′
-      → (d ≡ 0 → SearchFree s (length ws′) first end k) → BestIn B held first end k (r .finding) bins′ order′ → r .refusal ≡ 0
+      → (d ≡ 0 → SearchFree s (length ws′) first end k) → BestIn B low held first end k (r .finding) bins′ order′ → r .refusal ≡ 0
       → (scratch : ℕ) → 2 ^ k ≤ scratch → Agrees B (stretchBytes B held first end) k (r .finding) bins′ order′ scratch
   searched-agrees d first end k bins order r bins′ order′ S free best z scratch room =
       let valid = acquired-valid acquired in
-      let f = free (sym (said-is d _ _ _ k r (S .answered)) ∙ z) in
-      let has : end ≤ blocksIn B held = omega (arith, f .ordered .held, whole-recordings B ws pieces answers s ws′ acquired .blocks) in
+      let f = free (sym (said-is d _ _ _ _ k r (S .answered)) ∙ z) in
+      let has : end ≤ blocksIn B held = omega (arith, f .ordered .held, whole-recordings B low ws pieces answers s ws′ acquired .blocks) in
       let all : blocksIn B held ≤ 16777216 =
-      le-trans (room-blocks B (length ws) (length held) (valid-facts B valid) (all-recorded B ws valid pieces .holds .within)) (min-le-right _ _) in
-      let few : blocksIn B (stretchBytes B held first end) ≤ 16777216 = omega (arith, stretches-alone B held first end valid (f .ordered .order) has .blocks) in
-      findings-agree B (stretchBytes B held first end) k (r .finding) bins′ order′ scratch valid (f .width .some) (f .width .width) few room
-      (best-alone B held first end k (r .finding) bins′ order′ valid (f .ordered .order) has best)
+      le-trans (room-blocks B (length ws) (length held) (valid-facts B valid) (all-recorded B low ws valid pieces .holds .within)) (min-le-right _ _) in
+      let few : blocksIn B (stretchBytes B held first end) ≤ 16777216 = omega (arith, stretches-alone B low held first end valid (f .ordered .order) has .blocks) in
+      findings-agree B low (stretchBytes B held first end) k (r .finding) bins′ order′ scratch valid (f .width .some) (f .width .width) few room
+      (best-alone B low held first end k (r .finding) bins′ order′ valid (f .ordered .order) has best)
 
 pub all-agree : AllAgree
-all-agree B ws pieces answers s ws′ acquired =
-    let claim = claims B ws pieces answers s ws′ acquired in
+all-agree B low ws pieces answers s ws′ acquired =
+    let claim = claims B low ws pieces answers s ws′ acquired in
     record {
       direct = λ first end k bins order r bins′ order′ S z.
-          searched-agrees B ws pieces answers s ws′ acquired _ first end k bins order r bins′ order′ S
+          searched-agrees B low ws pieces answers s ws′ acquired _ first end k bins order r bins′ order′ S
           (λ e. direct-free s (length ws′) first end k (length bins) (length order) e .search) (claim .direct first end k bins order r bins′ order′ S .best z) z;
       layered = λ first end k lower upper bins order r lower′ upper′ bins′ order′ S z.
-          searched-agrees B ws pieces answers s ws′ acquired _ first end k bins order r bins′ order′ (S .search)
+          searched-agrees B low ws pieces answers s ws′ acquired _ first end k bins order r bins′ order′ (S .search)
           (λ e. layered-free s (length ws′) first end k (length lower) (length upper) (length bins) (length order) e .search)
           (claim .layered first end k lower upper bins order r lower′ upper′ bins′ order′ S .best z) z;
     }

@@ -1,5 +1,6 @@
 -- The refusals of an evaluation: what none of the early ones tells, and what is promised where there is one and where there is none.
 use mathlib.Core.Path.{_≡_, refl, sym, ap, _∙_}
+use mathlib.Core.Bool.{Bool}
 use mathlib.Core.List.{List, [], _∷_, _++_, map}
 use Prim.Native.Nat.{ℕ, zero, suc, _*_, _/_, _-_, _%_, _^_, _≤_}
 use native.Mathlib.Omega.{arith}
@@ -7,7 +8,7 @@ use lib.Dec.{leb}
 use lib.Ieee.{Float, nan}
 use lib.ListN.{length, getD, replicate, take, drop, length-replicate}
 use borrow.Author.Tests.{leb-true}
-use Rattle.counting.specs.Block.{blockBit}
+use Rattle.counting.specs.Block.{placeIn, blockBit}
 use Rattle.counting.specs.Recording.{recordedBit}
 use Rattle.counting.specs.Sample.{countsOf, total, Bits}
 use Rattle.counting.proofs.Lanes.{bit-lt}
@@ -26,9 +27,9 @@ use Rattle.judging.proofs.Tallying.{counts-none}
 use Rattle.judging.proofs.Checking.{Shaped, shaped, subset-of, chosen-length, room}
 
 -- every bit of a recording is 0 or 1
-pub recorded-small : (B : ℕ) (bytes : List ℕ) → Bits (recordedBit B bytes)
+pub recorded-small : (B : ℕ) (low : Bool) (bytes : List ℕ) → Bits (recordedBit B low bytes)
 unfolding recordedBit blockBit
-recorded-small B bytes e b = bit-lt (getD (take (B / 8) (drop (e * (B / 8)) bytes)) (b / 8) 0) (7 - b % 8)
+recorded-small B low bytes e b = bit-lt (getD (take (B / 8) (drop (e * (B / 8)) bytes)) (b / 8) 0) (placeIn low (b % 8))
 
 -- ---- no early refusal
 
@@ -82,7 +83,7 @@ zero-at (suc m) (suc v) = zero-at m v
 no-blocks : (f : Finding) (order bytes : List ℕ) → testingBlocks f bytes ≡ 0 → zIn f order bytes ≡ nan
 unfolding positiveOf
 no-blocks f order bytes e =
-    let bit = recordedBit (f .«block_size») bytes in
+    let bit = recordedBit (f .«block_size») (f .«low_first») bytes in
     let p = part (f .division) (f .width) in
     let none : positiveOf (countsOf bit 0 (chosen f)) order (f .division) ≡ 0 =
     ap (λ (c : List ℕ). positiveOf c order (f .division)) (sym (counts-none bit (chosen f)))

@@ -1,7 +1,7 @@
 -- The worked examples, computed.
 use mathlib.Core.Path.{refl}
 use lib.Ieee.{lt, mul, sub, div, ofInt, round, add, neg}
-use Rattle.counting.specs.Block.{validSize, binOf, blockBit}
+use Rattle.counting.specs.Block.{validSize, binOf, placeIn, blockBit}
 use Rattle.counting.specs.Recording.{recordedBit}
 use Rattle.counting.specs.Sample.{countIn, listOf, countsOf, total}
 use Rattle.scoring.specs.Halves.{part}
@@ -22,7 +22,7 @@ use Rattle.judging.proofs.Sweeping.{plans-at-thousand}
 use Rattle.judging.proofs.Splitting.{blocks-of-sixteen}
 
 pub evaluation-example : EvaluationExample
-unfolding winnerOf recordedBit blockBit binOf countIn listOf countsOf total part root rootAt isqrt isqrtFrom deviation zOver zScore abs before insertBin sortBins orderOf peak inBinOrder sizeAt scoreOf lt mul sub div ofInt round add neg validSize validWidth increasing within bitsRefusal among eachOnce limitRefusal lengthRefusal shapeRefusal scratchRefusal divisionRefusal orderRefusal checkRefusal earlyCheckRefusal positiveOf blocksRefusal earlyEvaluationRefusal evaluationRefusal evaluatedOf
+unfolding winnerOf recordedBit placeIn blockBit binOf countIn listOf countsOf total part root rootAt isqrt isqrtFrom deviation zOver zScore abs before insertBin sortBins orderOf peak inBinOrder sizeAt scoreOf lt mul sub div ofInt round add neg validSize validWidth increasing within bitsRefusal among eachOnce limitRefusal lengthRefusal shapeRefusal scratchRefusal divisionRefusal orderRefusal checkRefusal earlyCheckRefusal positiveOf blocksRefusal earlyEvaluationRefusal evaluationRefusal evaluatedOf
 evaluation-example = record { sound = refl; counts = refl; answer = refl }
 
 pub all-examples : AllExamples

@@ -5,6 +5,7 @@ pub mod Once
 pub mod Tallying
 pub mod Evaluating
 pub mod Agreeing
+pub mod Reversing
 pub mod Splitting
 pub mod Planning
 pub mod Sweeping

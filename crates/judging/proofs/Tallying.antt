@@ -5,6 +5,7 @@ use native.Mathlib.Decide.{ℕ-discrete}
 use native.Mathlib.Nat.{div-mul-le-self, mul-le-mul-right}
 use native.Mathlib.Numerals.{add-one}
 use native.Mathlib.Omega.{arith}
+use mathlib.Core.Bool.{Bool}
 use mathlib.Core.List.{List, map}
 use lib.ListN.{length, getD, set, take, drop, replicate, length-set, length-take, length-drop, length-replicate, getD-replicate, length-map}
 use lib.Seq.{ext-getD, getD-set-same, getD-set-other, take-length}
@@ -76,11 +77,11 @@ pub block-length : (size e : ℕ) (bytes : List ℕ) → e < length bytes / size
 block-length size e bytes h = simp (length-take, length-drop) (omega (arith, block-end e size (length bytes) h))
 
 -- have the bin of the recording's block e
-pub block-bin : (B e : ℕ) (bits bytes : List ℕ) → binOf (blockBit (blockAt (blockBytes B) e bytes)) bits ≡ binOf (recordedBit B bytes e) bits
+pub block-bin : (B : ℕ) (low : Bool) (e : ℕ) (bits bytes : List ℕ) → binOf (blockBit low (blockAt (blockBytes B) e bytes)) bits ≡ binOf (recordedBit B low bytes e) bits
 unfolding recordedBit
-block-bin B e bits bytes =
+block-bin B low e bits bytes =
     let size : e * blockBytes B + blockBytes B - e * blockBytes B ≡ blockBytes B = omega arith in
-    ap (λ (m : ℕ). binOf (blockBit (take m (drop (e * blockBytes B) bytes))) bits) size
+    ap (λ (m : ℕ). binOf (blockBit low (take m (drop (e * blockBytes B) bytes))) bits) size
 
 -- ---- the sum of the first counts
 

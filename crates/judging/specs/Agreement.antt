@@ -1,6 +1,6 @@
 -- A finding evaluated on the very blocks that it was found in.
 use mathlib.Core.Path.{_≡_}
-use mathlib.Core.Bool.{true}
+use mathlib.Core.Bool.{Bool, true}
 use mathlib.Core.List.{List}
 use Prim.Native.Nat.{ℕ, _^_, _≤_}
 use lib.ListN.{length, take}
@@ -31,9 +31,9 @@ pub record Agrees (B : ℕ) (held : List ℕ) (k : ℕ) (f : Finding) (bins orde
 -- Theorem: that holds of every best finding of a recording.
 abbrev pub FindingsAgree : Type 0
 FindingsAgree =
-    (B : ℕ) (held : List ℕ) (k : ℕ) (f : Finding) (bins order : List ℕ) (scratch : ℕ)
+    (B : ℕ) (low : Bool) (held : List ℕ) (k : ℕ) (f : Finding) (bins order : List ℕ) (scratch : ℕ)
     → validSize B ≡ true → 1 ≤ k → k ≤ 20 → blocksIn B held ≤ 16777216 → 2 ^ k ≤ scratch
-    → BestOf B held k f bins order → Agrees B held k f bins order scratch
+    → BestOf B low held k f bins order → Agrees B held k f bins order scratch
 
 -- Theorem: it holds of what each search leaves after a start that is not refused and any feeds, where the search is not refused, and of the bytes of its
 -- stretch of the recording.
@@ -48,5 +48,5 @@ pub record SearchesAgree (B : ℕ) (ws : List ℕ) (pieces : List (List ℕ)) (s
 
 abbrev pub AllAgree : Type 0
 AllAgree =
-    (B : ℕ) (ws : List ℕ) (pieces : List (List ℕ)) (answers : List ℕ) (s : Sampler) (ws′ : List ℕ)
-    → Acquisition B ws pieces answers s ws′ → SearchesAgree B ws pieces s ws′
+    (B : ℕ) (low : Bool) (ws : List ℕ) (pieces : List (List ℕ)) (answers : List ℕ) (s : Sampler) (ws′ : List ℕ)
+    → Acquisition B low ws pieces answers s ws′ → SearchesAgree B ws pieces s ws′

@@ -22,9 +22,9 @@ use Rattle.judging.specs.declared.evaluation.Score.the-variants.{Z, NoSa
 abbrev pub testingBlocks : Finding → List ℕ → ℕ
 testingBlocks f bytes = blocksIn (f .«block_size») bytes
 
--- the counts of the finding's bins over these blocks
+-- the counts of the finding's bins over these blocks, in its bit order
 abbrev pub countsIn : Finding → List ℕ → List ℕ
-countsIn f bytes = countsOf (recordedBit (f .«block_size») bytes) (testingBlocks f bytes) (chosen f)
+countsIn f bytes = countsOf (recordedBit (f .«block_size») (f .«low_first») bytes) (testingBlocks f bytes) (chosen f)
 
 -- the sum of the counts of the first `division` bins of the order
 unfoldable pub positiveOf : List ℕ → List ℕ → ℕ → ℕ

@@ -1,5 +1,6 @@
 -- The worked examples: a finding evaluated on other data, and all of them together.
 use mathlib.Core.Path.{_≡_}
+use mathlib.Core.Bool.{false}
 use mathlib.Core.List.{List, [], _∷_}
 use Prim.Native.Nat.{ℕ}
 use Rattle.counting.specs.Recording.{blocksIn, recordedBit}
@@ -19,7 +20,7 @@ searchedBytes = 0 ∷ 0 ∷ 0xff ∷ 0xff ∷ []
 
 -- what a search of width 2 finds in 00 00 FF FF
 abbrev pub together : Finding
-together = findingOf (recordedBit 8 searchedBytes) (blocksIn 8 searchedBytes) 8 (winnerOf (recordedBit 8 searchedBytes) (blocksIn 8 searchedBytes) 8 2)
+together = findingOf false (recordedBit 8 false searchedBytes) (blocksIn 8 searchedBytes) 8 (winnerOf (recordedBit 8 false searchedBytes) (blocksIn 8 searchedBytes) 8 2)
 
 -- its bin order there
 abbrev pub itsOrder : List ℕ

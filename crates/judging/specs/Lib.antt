@@ -4,6 +4,7 @@ pub mod Permutation
 pub mod Check
 pub mod Evaluation
 pub mod Agreement
+pub mod Reversed
 pub mod Split
 pub mod Plan
 pub mod Examples

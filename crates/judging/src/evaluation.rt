@@ -97,15 +97,21 @@ fn evaluate(finding: Finding, order: &[u32], bytes: &[u8], bins: &mut [u32]) -> 
 {
     let k = finding.width;
     let bits = finding.bits;
-    count_blocks(&bits[..k], finding.block_size, bytes, bins);
+    count_blocks(
+        &bits[..k],
+        finding.block_size,
+        finding.low_first,
+        bytes,
+        bins,
+    );
     sum_first(bins, order, finding.division as usize)
 }
 
-// Counts each whole block of the data in its bin. The bins are zeros before.
-fn count_blocks(bits: &[u32], block_size: usize, bytes: &[u8], bins: &mut [u32])
+// Counts each whole block of the data, in the bit order, in its bin. The bins are zeros before.
+fn count_blocks(bits: &[u32], block_size: usize, low_first: bool, bytes: &[u8], bins: &mut [u32])
     requires { ⌜ CountableData «block_size» (now bits) (now bytes) ⌝ }
     requires { ⌜ now bins ≡ replicate (2 ^ length (now bits)) 0 ⌝ }
-    ensures { λ _. ⌜ now (bins .exit) ≡ countsOf (recordedBit «block_size» (now (bytes .entry))) (blocksIn «block_size» (now (bytes .entry))) (now (bits .entry)) ⌝ }
+    ensures { λ _. ⌜ now (bins .exit) ≡ countsOf (recordedBit «block_size» «low_first» (now (bytes .entry))) (blocksIn «block_size» (now (bytes .entry))) (now (bits .entry)) ⌝ }
 {
     let size = block_size / 8;
     let n = bytes.len() / size;
@@ -113,7 +119,7 @@ fn count_blocks(bits: &[u32], block_size: usize, bytes: &[u8], bins: &mut [u32])
     while e < n {
         let at = e * size;
         let end = at + size;
-        let v = bits_block_eval(bits, &bytes[at..end]) as usize;
+        let v = bits_block_eval(bits, low_first, &bytes[at..end]) as usize;
         bins[v] += 1;
         e += 1;
     }

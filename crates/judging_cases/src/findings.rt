@@ -1,5 +1,5 @@
-// Cases of findings: B, the width, 20 bits, of which those past the width mean nothing, the division, the pattern of z; the order, its length first; the
-// length of the scratch; the bytes to evaluate on, their number first.
+// Cases of findings: B, the width, 20 bits, of which those past the width mean nothing, the division, the pattern of z, the bit order, 1 where the low bit
+// comes first; the order, its length first; the length of the scratch; the bytes to evaluate on, their number first.
 // Answer: a line with the check's refusal, and one with the scratch after it; a line with the evaluation's refusal, the positive blocks, and 1 and the
 // pattern of z, or 0 where there is no sample; and one with the scratch after it. Every entry of a scratch is 99 before.
 ghost use mathlib.Core.Path.{_≡_};
@@ -51,6 +51,7 @@ fn read_finding(text: &[u8], at: usize) -> Given {
     let after = numbers(text, width.at, &mut bits);
     let division = number(text, after);
     let z = number(text, division.at);
+    let bit_order = number(text, z.at);
     Given {
         finding: Finding {
             block_size: size.value as usize,
@@ -58,8 +59,9 @@ fn read_finding(text: &[u8], at: usize) -> Given {
             bits,
             division: at_most(division.value, 4294967295) as u32,
             z: double(z.value),
+            low_first: bit_order.value == 1,
         },
-        at: z.at,
+        at: bit_order.at,
     }
 }
 

@@ -13,10 +13,10 @@ fn main() {
 }
 
 // For the whole of standard input.
-fn room() -> [u8; 262144]
-    ensures { λ r. ⌜ 262144 ≡ length r ⌝ }
+fn room() -> [u8; 393216]
+    ensures { λ r. ⌜ 393216 ≡ length r ⌝ }
 {
-    [0; 262144]
+    [0; 393216]
 }
 
 // All cases of a text: the splits, the plans, the findings.

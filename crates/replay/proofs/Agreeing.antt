@@ -1,6 +1,6 @@
 -- Samples that agree have the same winner, and so the same finding, counts and order.
 use mathlib.Core.Path.{_≡_, ap, subst, _∙_}
-use mathlib.Core.Bool.{not}
+use mathlib.Core.Bool.{Bool, not}
 use mathlib.Core.List.{List}
 use mathlib.Core.Logic.{_⊎_, inl, inr}
 use Prim.Native.Nat.{ℕ, _≤_}
@@ -47,9 +47,9 @@ module _ (B n k : ℕ) (bit bit′ : ℕ → ℕ → ℕ) (agree : AgreeBelow n 
   unfolding W
   winner-counts = counts-agree B n k bit bit′ agree W (best .subset) ∙ ap (countsOf bit′ n) winner-agree
 
-  pub winner-finding : findingOf bit n B (winnerOf bit n B k) ≡ findingOf bit′ n B (winnerOf bit′ n B k)
+  pub winner-finding : (low : Bool) → findingOf low bit n B (winnerOf bit n B k) ≡ findingOf low bit′ n B (winnerOf bit′ n B k)
   unfolding W
-  winner-finding =
+  winner-finding low =
       let told : List ℕ → Finding =
-      λ c. record { «block_size» = B; width = length W; bits = padded W; division = scoreOf n (length W) c .division; z = scoreOf n (length W) c .z } in
-      ap told (counts-agree B n k bit bit′ agree W (best .subset)) ∙ ap (findingOf bit′ n B) winner-agree
+      λ c. record { «block_size» = B; width = length W; bits = padded W; division = scoreOf n (length W) c .division; z = scoreOf n (length W) c .z; «low_first» = low } in
+      ap told (counts-agree B n k bit bit′ agree W (best .subset)) ∙ ap (findingOf low bit′ n B) winner-agree

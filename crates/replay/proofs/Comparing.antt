@@ -12,7 +12,7 @@ use lib.ListN.{getD}
 use borrow.Author.Tests.{eq-eqb}
 use Rattle.scoring.specs.Score.{Number}
 use Rattle.searching.specs.declared.finding.Finding.{Finding}
-use Rattle.replay.specs.Agreement.{sameTo, sameFinding}
+use Rattle.replay.specs.Agreement.{sameTo, alike, sameFinding}
 
 -- one entry more
 pub same-next : (a b : List ℕ) (i : ℕ) → sameTo a b i ≡ true → getD a i 0 ≡ getD b i 0 → sameTo a b (i + 1) ≡ true
@@ -52,8 +52,12 @@ eq-self (inf false) n = refl
 eq-self (fin true m e) n = rw (eq-eqb (m * up e * down e) (m * up e * down e) refl)
 eq-self (fin false m e) n = rw (eq-eqb (m * up e * down e) (m * up e * down e) refl)
 
+alike-self : (b : Bool) → alike b b ≡ true
+alike-self true = refl
+alike-self false = refl
+
 pub finding-self : (f : Finding) → Number (f .z) → sameFinding f f ≡ true
 unfolding sameFinding
 finding-self f n =
-    rw (eq-eqb (f .«block_size») (f .«block_size») refl, eq-eqb (f .width) (f .width) refl, eq-eqb (f .division) (f .division) refl, same-self (f .bits) (min (f .width) 20))
+    rw (eq-eqb (f .«block_size») (f .«block_size») refl, eq-eqb (f .width) (f .width) refl, eq-eqb (f .division) (f .division) refl, same-self (f .bits) (min (f .width) 20), alike-self (f .«low_first»))
     (eq-self (f .z) n)

@@ -1,6 +1,6 @@
 -- What a replay that is not refused may take for granted, and the layered search that is left out.
 use mathlib.Core.Path.{_≡_, refl, sym, ap, _∙_}
-use mathlib.Core.Bool.{true}
+use mathlib.Core.Bool.{Bool, true}
 use mathlib.Core.List.{List}
 use Prim.Native.Nat.{ℕ, zero, suc, _^_, _≤_}
 use native.Mathlib.Omega.{arith}
@@ -58,15 +58,15 @@ left-out s ws end k first second bins order answer short free is some e =
     is ∙ or-first stores (bufferRefusal k (length bins) (length order)) (λ z. some (is ∙ z))
     ∙ sym (stores-decide s (length ws) 0 end k (length first) (length second) (length bins) (length order) free) in
     record {
-      search = search-refused _ _ _ _ k bins order answer (λ z. some (said ∙ z)) (e ∙ ap refusedWith said);
+      search = search-refused _ _ _ _ _ k bins order answer (λ z. some (said ∙ z)) (e ∙ ap refusedWith said);
       kept = (refl, refl);
     }
 
 -- a replay that is refused leaves everything as lent
-pub as-lent : (r B : ℕ) (pieces : List (List ℕ)) (k : ℕ) (ws first second bins order : List ℕ) (answer : Replayed)
-    → (r ≡ 0 → ⊥) → answer ≡ refusedReplay r → ReplayOf r B pieces k ws first second bins order answer ws first second bins order
-as-lent zero B pieces k ws first second bins order answer some e = absurd (some refl)
-as-lent (suc r) B pieces k ws first second bins order answer some e = record {
+pub as-lent : (r B : ℕ) (low : Bool) (pieces : List (List ℕ)) (k : ℕ) (ws first second bins order : List ℕ) (answer : Replayed)
+    → (r ≡ 0 → ⊥) → answer ≡ refusedReplay r → ReplayOf r B low pieces k ws first second bins order answer ws first second bins order
+as-lent zero B low pieces k ws first second bins order answer some e = absurd (some refl)
+as-lent (suc r) B low pieces k ws first second bins order answer some e = record {
   answered = e;
   written = refl;
   counted = refl;

@@ -42,65 +42,65 @@ use Rattle.replay.proofs.Refusing.{ReplayFree, stores-decide}
 
 -- ---- the calls are an acquisition
 
-extend : {B : ℕ} {ws : List ℕ} {pieces : List (List ℕ)} {answers : List ℕ} {s : Sampler} {ws′ : List ℕ} → Acquisition B ws pieces answers s ws′
+extend : {B : ℕ} {low : Bool} {ws : List ℕ} {pieces : List (List ℕ)} {answers : List ℕ} {s : Sampler} {ws′ : List ℕ} → Acquisition B low ws pieces answers s ws′
     → (more : List (List ℕ))
-    → Acquisition B ws (pieces ++ more) (answers ++ answersFrom (stateOf s ws′) more) (fedAll (stateOf s ws′) more .sampler) (fedAll (stateOf s ws′) more .words)
+    → Acquisition B low ws (pieces ++ more) (answers ++ answersFrom (stateOf s ws′) more) (fedAll (stateOf s ws′) more .sampler) (fedAll (stateOf s ws′) more .words)
 unfolding fed fedAll answersFrom
-extend {B} {ws} {pieces} {answers} {s} {ws′} S [] = rw (append-nil pieces, append-nil answers) S
-extend {B} {ws} {pieces} {answers} {s} {ws′} S (p ∷ more) =
+extend {B} {low} {ws} {pieces} {answers} {s} {ws′} S [] = rw (append-nil pieces, append-nil answers) S
+extend {B} {low} {ws} {pieces} {answers} {s} {ws′} S (p ∷ more) =
     let X = extend (next S p (fedOf s (length ws′) (length p)) (fedWords s ws′ p) refl refl) more in
     simp append-assoc at X
 
 -- the state after start and all feeds
-abbrev pub stateAfter : ℕ → List ℕ → List (List ℕ) → State
-stateAfter B ws pieces = fedAll (started B ws) pieces
+abbrev pub stateAfter : ℕ → Bool → List ℕ → List (List ℕ) → State
+stateAfter B low ws pieces = fedAll (started B low ws) pieces
 
-module _ (B : ℕ) (ws : List ℕ) (pieces : List (List ℕ)) (ok : validSize B ≡ true) where
-  acquired : Acquisition B ws pieces (answersFrom (started B ws) pieces) (stateAfter B ws pieces .sampler) (stateAfter B ws pieces .words)
+module _ (B : ℕ) (low : Bool) (ws : List ℕ) (pieces : List (List ℕ)) (ok : validSize B ≡ true) where
+  acquired : Acquisition B low ws pieces (answersFrom (started B low ws) pieces) (stateAfter B low ws pieces .sampler) (stateAfter B low ws pieces .words)
   unfolding started startedOf
   acquired =
-      let none : startedOf B (length ws) .refusal ≡ 0 = simp ok in
-      extend (fresh (startedOf B (length ws)) (startedWords B ws) refl refl none) pieces
+      let none : startedOf B low (length ws) .refusal ≡ 0 = simp ok in
+      extend (fresh (startedOf B low (length ws)) (startedWords B ws) refl refl none) pieces
 
-  claim : Claim B ws pieces (answersFrom (started B ws) pieces) (stateAfter B ws pieces .sampler) (stateAfter B ws pieces .words)
-  claim = claims B ws pieces _ _ _ acquired
+  claim : Claim B low ws pieces (answersFrom (started B low ws) pieces) (stateAfter B low ws pieces .sampler) (stateAfter B low ws pieces .words)
+  claim = claims B low ws pieces _ _ _ acquired
 
-  holds : HoldsRecording B (length ws) (stateAfter B ws pieces) (recording B (length ws) pieces)
-  holds = all-recorded B ws ok pieces .holds
+  holds : HoldsRecording B low (length ws) (stateAfter B low ws pieces) (recording B (length ws) pieces)
+  holds = all-recorded B low ws ok pieces .holds
 
   -- its n is the recording's
-  pub blocks-are : blocksOf (stateAfter B ws pieces .sampler) ≡ blocksIn B (recording B (length ws) pieces)
-  blocks-are = whole-recordings B ws pieces _ _ _ acquired .blocks
+  pub blocks-are : blocksOf (stateAfter B low ws pieces .sampler) ≡ blocksIn B (recording B (length ws) pieces)
+  blocks-are = whole-recordings B low ws pieces _ _ _ acquired .blocks
 
   -- a recorder's sampler is never refused, nor all its blocks
-  pub searchable : (k : ℕ) → widthRefusal B k ≡ 0 → searchRefusal (stateAfter B ws pieces .sampler) (length (stateAfter B ws pieces .words)) 0 (blocksOf (stateAfter B ws pieces .sampler)) k ≡ 0
+  pub searchable : (k : ℕ) → widthRefusal B k ≡ 0 → searchRefusal (stateAfter B low ws pieces .sampler) (length (stateAfter B low ws pieces .words)) 0 (blocksOf (stateAfter B low ws pieces .sampler)) k ≡ 0
   unfolding searchRefusal
   searchable k e =
       let H = holds in
-      rw (never-outside (stateAfter B ws pieces .sampler), H .sampler, usable-is B (length ws) (recording B (length ws) pieces) (stateAfter B ws pieces .words) ok (H .lent) (H .within) (H .stored) 0 0 k) e
+      rw (never-outside (stateAfter B low ws pieces .sampler), H .sampler, usable-is B low (length ws) (recording B (length ws) pieces) (stateAfter B low ws pieces .words) ok (H .lent) (H .within) (H .stored) 0 0 k) e
 
 -- the state after start
-pub fresh-is : (B : ℕ) (ws : List ℕ) (r : Started) (ws₁ : List ℕ) → r ≡ startedOf B (length ws) → ws₁ ≡ startedWords B ws → stateOf (r .sampler) ws₁ ≡ started B ws
+pub fresh-is : (B : ℕ) (low : Bool) (ws : List ℕ) (r : Started) (ws₁ : List ℕ) → r ≡ startedOf B low (length ws) → ws₁ ≡ startedWords B ws → stateOf (r .sampler) ws₁ ≡ started B low ws
 unfolding started
-fresh-is B ws r ws₁ e g = λ i. record { sampler = e i .sampler; words = g i }
+fresh-is B low ws r ws₁ e g = λ i. record { sampler = e i .sampler; words = g i }
 
 -- .. and after all feeds
-pub state-is : (B : ℕ) (ws : List ℕ) (pieces : List (List ℕ)) (r : Started) (ws₁ : List ℕ) (taken : Taken) (ws₂ : List ℕ)
-    → r ≡ startedOf B (length ws) → ws₁ ≡ startedWords B ws → FedPieces (r .sampler) ws₁ pieces taken ws₂ → stateOf (taken .sampler) ws₂ ≡ stateAfter B ws pieces
-state-is B ws pieces r ws₁ taken ws₂ e g F = F .state ∙ ap (λ (q : State). fedAll q pieces) (fresh-is B ws r ws₁ e g)
+pub state-is : (B : ℕ) (low : Bool) (ws : List ℕ) (pieces : List (List ℕ)) (r : Started) (ws₁ : List ℕ) (taken : Taken) (ws₂ : List ℕ)
+    → r ≡ startedOf B low (length ws) → ws₁ ≡ startedWords B ws → FedPieces (r .sampler) ws₁ pieces taken ws₂ → stateOf (taken .sampler) ws₂ ≡ stateAfter B low ws pieces
+state-is B low ws pieces r ws₁ taken ws₂ e g F = F .state ∙ ap (λ (q : State). fedAll q pieces) (fresh-is B low ws r ws₁ e g)
 
 -- ---- one search, told of the recording
 
 -- what a search that is not refused finds and leaves
-record Told (B : ℕ) (held : List ℕ) (k : ℕ) (bins order : List ℕ) (f : Finding) (bins′ order′ : List ℕ) : Type 0 where
-  finding : f ≡ heldFinding B held k
-  counted : let bit = recordedBit B held in let n = blocksIn B held in bins′ ≡ countsOf bit n (winnerOf bit n B k) ++ drop (2 ^ k) bins
-  ordered : let bit = recordedBit B held in let n = blocksIn B held in order′ ≡ orderOf (countsOf bit n (winnerOf bit n B k)) ++ drop (2 ^ k) order
+record Told (B : ℕ) (low : Bool) (held : List ℕ) (k : ℕ) (bins order : List ℕ) (f : Finding) (bins′ order′ : List ℕ) : Type 0 where
+  finding : f ≡ heldFinding B low held k
+  counted : let bit = recordedBit B low held in let n = blocksIn B held in bins′ ≡ countsOf bit n (winnerOf bit n B k) ++ drop (2 ^ k) bins
+  ordered : let bit = recordedBit B low held in let n = blocksIn B held in order′ ≡ orderOf (countsOf bit n (winnerOf bit n B k)) ++ drop (2 ^ k) order
 
-module _ (B words : ℕ) (held ws : List ℕ) (ok : validSize B ≡ true) (lent : length ws ≡ words) (within : length held ≤ capacityBytes B words)
-    (agree : AgreeBelow (blocksIn B held) B (storedBit (stride B words) ws) (recordedBit B held)) (k : ℕ) (chosen : k ≤ B) where
+module _ (B : ℕ) (low : Bool) (words : ℕ) (held ws : List ℕ) (ok : validSize B ≡ true) (lent : length ws ≡ words) (within : length held ≤ capacityBytes B words)
+    (agree : AgreeBelow (blocksIn B held) B (storedBit (stride B words) ws) (recordedBit B low held)) (k : ℕ) (chosen : k ≤ B) where
   abbrev s : Sampler
-  s = record { «block_size» = B; words = words; taken = length held }
+  s = record { «block_size» = B; words = words; taken = length held; «low_first» = low }
 
   abbrev n : ℕ
   n = blocksIn B held
@@ -108,20 +108,20 @@ module _ (B words : ℕ) (held ws : List ℕ) (ok : validSize B ≡ true) (lent 
   abbrev bit : ℕ → ℕ → ℕ
   bit = sampleOf s ws
 
-  agreed-below : AgreeBelow n B bit (recordedBit B held)
+  agreed-below : AgreeBelow n B bit (recordedBit B low held)
   agreed-below = rw lent agree
 
-  told : (bins order : List ℕ) (r : Searched) (bins′ order′ : List ℕ) → Search 0 bit n B k bins order r bins′ order′ → Told B held k bins order (r .finding) bins′ order′
+  told : (bins order : List ℕ) (r : Searched) (bins′ order′ : List ℕ) → Search 0 low bit n B k bins order r bins′ order′ → Told B low held k bins order (r .finding) bins′ order′
   told bins order r bins′ order′ S =
-      let counts = winner-counts B n k bit (recordedBit B held) agreed-below chosen in
+      let counts = winner-counts B n k bit (recordedBit B low held) agreed-below chosen in
       record {
-        finding = ap (λ (a : Searched). a .finding) (S .answered) ∙ winner-finding B n k bit (recordedBit B held) agreed-below chosen;
+        finding = ap (λ (a : Searched). a .finding) (S .answered) ∙ winner-finding B n k bit (recordedBit B low held) agreed-below chosen low;
         counted = S .counted ∙ ap (λ (c : List ℕ). c ++ drop (2 ^ k) bins) counts;
         ordered = S .ordered ∙ ap (λ (c : List ℕ). orderOf c ++ drop (2 ^ k) order) counts;
       }
 
   -- refused or not, a search leaves what lies past the 2 ^ k entries
-  past-kept : (q : ℕ) (bins order : List ℕ) (r : Searched) (bins′ order′ : List ℕ) → Search q bit n B k bins order r bins′ order′
+  past-kept : (q : ℕ) (bins order : List ℕ) (r : Searched) (bins′ order′ : List ℕ) → Search q low bit n B k bins order r bins′ order′
       → (drop (2 ^ k) bins′ ≡ drop (2 ^ k) bins) × (drop (2 ^ k) order′ ≡ drop (2 ^ k) order)
   past-kept zero bins order r bins′ order′ S =
       let W = winnerOf bit n B k in
@@ -148,10 +148,10 @@ agree-is layered direct N same = by-test (eqb (layered .refusal) 0) refl
         rw e (subst (λ (f : Finding). sameFinding f (direct .finding) ≡ true) is (finding-self (direct .finding) N))
     by-test false e = rw e
 
-module _ (B : ℕ) (ws : List ℕ) (pieces : List (List ℕ)) (bytes : ℕ) (lengths : List ℕ) (k : ℕ) (first second bins order : List ℕ)
+module _ (B : ℕ) (low : Bool) (ws : List ℕ) (pieces : List (List ℕ)) (bytes : ℕ) (lengths : List ℕ) (k : ℕ) (first second bins order : List ℕ)
     (free : ReplayFree B bytes lengths k (length bins) (length order)) where
   abbrev st : State
-  st = stateAfter B ws pieces
+  st = stateAfter B low ws pieces
 
   abbrev held : List ℕ
   held = recording B (length ws) pieces
@@ -160,16 +160,16 @@ module _ (B : ℕ) (ws : List ℕ) (pieces : List (List ℕ)) (bytes : ℕ) (len
   stores = storeRefusal B k (length first) (length second)
 
   abbrev sampler : Sampler
-  sampler = record { «block_size» = B; words = length ws; taken = length held }
+  sampler = record { «block_size» = B; words = length ws; taken = length held; «low_first» = low }
 
-  H : HoldsRecording B (length ws) st held
-  H = holds B ws pieces (free .valid)
+  H : HoldsRecording B low (length ws) st held
+  H = holds B low ws pieces (free .valid)
 
-  C : Claim B ws pieces (answersFrom (started B ws) pieces) (st .sampler) (st .words)
-  C = claim B ws pieces (free .valid)
+  C : Claim B low ws pieces (answersFrom (started B low ws) pieces) (st .sampler) (st .words)
+  C = claim B low ws pieces (free .valid)
 
   no-search : searchRefusal (st .sampler) (length (st .words)) 0 (blocksOf (st .sampler)) k ≡ 0
-  no-search = searchable B ws pieces (free .valid) k (free .no-width)
+  no-search = searchable B low ws pieces (free .valid) k (free .no-width)
 
   -- the layered search is refused just where the stores do not suffice
   layered-said : layeredRefusal (st .sampler) (length (st .words)) 0 (blocksOf (st .sampler)) k (length first) (length second) (length bins) (length order) ≡ stores
@@ -179,7 +179,7 @@ module _ (B : ℕ) (ws : List ℕ) (pieces : List (List ℕ)) (bytes : ℕ) (len
       ∙ or-none _ _ (free .no-buffer) ∙ ap (λ (m : ℕ). storeRefusal m k (length first) (length second)) block
 
   module _ (taken : Taken) (layered direct : Searched) (ws′ first′ second′ bins₁ order₁ bins′ order′ : List ℕ)
-      (is : stateOf (taken .sampler) ws′ ≡ stateAfter B ws pieces)
+      (is : stateOf (taken .sampler) ws′ ≡ stateAfter B low ws pieces)
       (made-layered : LayeredSearch (taken .sampler) ws′ 0 (blocksOf (taken .sampler)) k first second bins order layered first′ second′ bins₁ order₁)
       (made-direct : DirectSearch (taken .sampler) ws′ 0 (blocksOf (taken .sampler)) k bins₁ order₁ direct bins′ order′)
       (same-bins : length bins₁ ≡ length bins) (same-order : length order₁ ≡ length order) where
@@ -199,43 +199,43 @@ module _ (B : ℕ) (ws : List ℕ) (pieces : List (List ℕ)) (bytes : ℕ) (len
     succeeds : direct .refusal ≡ 0
     succeeds =
         let w = free .width in
-        let has : blocks ≤ blocksIn B held = omega (arith, blocks-are B ws pieces (free .valid)) in
+        let has : blocks ≤ blocksIn B held = omega (arith, blocks-are B low ws pieces (free .valid)) in
         C .direct 0 blocks k bins₁ order₁ direct bins′ order′ D .succeeds zero-le has (w .some, w .width, w .chosen, rw same-bins (free .room .0), rw same-order (free .room .1))
 
-    best : BestOf B held k (direct .finding) bins′ order′
-    best = whole-recordings B ws pieces _ _ _ (acquired B ws pieces (free .valid)) .best k (direct .finding) bins′ order′ (C .direct 0 blocks k bins₁ order₁ direct bins′ order′ D .best succeeds)
+    best : BestOf B low held k (direct .finding) bins′ order′
+    best = whole-recordings B low ws pieces _ _ _ (acquired B low ws pieces (free .valid)) .best k (direct .finding) bins′ order′ (C .direct 0 blocks k bins₁ order₁ direct bins′ order′ D .best succeeds)
 
     refusal : ℕ
     refusal = layeredRefusal (st .sampler) (length (st .words)) 0 blocks k (length first) (length second) (length bins) (length order)
 
     -- a search of all blocks, of the sampler that the recording tells
     all-blocks : (q : ℕ) (bins order : List ℕ) (r : Searched) (bins′ order′ : List ℕ) → StretchSearch q (st .sampler) (st .words) 0 blocks k bins order r bins′ order′
-        → Search q (sampleOf sampler (st .words)) (blocksIn B held) B k bins order r bins′ order′
+        → Search q low (sampleOf sampler (st .words)) (blocksIn B held) B k bins order r bins′ order′
     all-blocks q bins order r bins′ order′ S =
-        subst (λ (p : Sampler). Search q (sampleOf p (st .words)) (blocksOf p) (p .«block_size») k bins order r bins′ order′) (H .sampler)
+        subst (λ (p : Sampler). Search q (p .«low_first») (sampleOf p (st .words)) (blocksOf p) (p .«block_size») k bins order r bins′ order′) (H .sampler)
         (whole-stretches (st .sampler) 0 .search (st .words) q k bins order r bins′ order′ S)
 
-    told-layered : Search refusal (sampleOf sampler (st .words)) (blocksIn B held) B k bins order layered bins₁ order₁
+    told-layered : Search refusal low (sampleOf sampler (st .words)) (blocksIn B held) B k bins order layered bins₁ order₁
     unfolding refusal
     told-layered = all-blocks refusal bins order layered bins₁ order₁ (L .search)
 
     layered-is : layered .refusal ≡ stores
     unfolding refusal
-    layered-is = said-is refusal _ _ B k layered (told-layered .answered) ∙ layered-said
+    layered-is = said-is refusal low _ _ B k layered (told-layered .answered) ∙ layered-said
 
     agreed : agreeOf layered direct ≡ true
     agreed =
         agree-is layered direct (rw (best .z) (score-number _ _ _))
         (λ z. C .same 0 blocks k bins₁ order₁ direct bins′ order′ D first second bins order layered first′ second′ bins₁ order₁ L succeeds z .findings)
 
-    found : Told B held k bins₁ order₁ (direct .finding) bins′ order′
+    found : Told B low held k bins₁ order₁ (direct .finding) bins′ order′
     found =
-        told B (length ws) held (st .words) (free .valid) (H .lent) (H .within) (H .stored) k (free .width .chosen) bins₁ order₁ direct bins′ order′
+        told B low (length ws) held (st .words) (free .valid) (H .lent) (H .within) (H .stored) k (free .width .chosen) bins₁ order₁ direct bins′ order′
         (all-blocks 0 bins₁ order₁ direct bins′ order′
         (subst (λ (q : ℕ). StretchSearch q (st .sampler) (st .words) 0 blocks k bins₁ order₁ direct bins′ order′) direct-said D))
 
     past : (drop (2 ^ k) bins₁ ≡ drop (2 ^ k) bins) × (drop (2 ^ k) order₁ ≡ drop (2 ^ k) order)
-    past = past-kept B (length ws) held (st .words) (free .valid) (H .lent) (H .within) (H .stored) k (free .width .chosen) refusal bins order layered bins₁ order₁ told-layered
+    past = past-kept B low (length ws) held (st .words) (free .valid) (H .lent) (H .within) (H .stored) k (free .width .chosen) refusal bins order layered bins₁ order₁ told-layered
 
     stores-kept : (drop (freeAfter stores B k) first′ ≡ drop (freeAfter stores B k) first) × (drop (freeAfter stores B k) second′ ≡ drop (freeAfter stores B k) second)
     stores-kept =
@@ -244,17 +244,17 @@ module _ (B : ℕ) (ws : List ℕ) (pieces : List (List ℕ)) (bytes : ℕ) (len
         ≡ freeAfter stores B k = λ i. freeAfter (layered-said i) (block i) k in
         subst (λ (m : ℕ). (drop m first′ ≡ drop m first) × (drop m second′ ≡ drop m second)) same (L .kept)
 
-    pub replayed : taken .refused ≡ refusedIn (answersFrom (started B ws) pieces)
+    pub replayed : taken .refused ≡ refusedIn (answersFrom (started B low ws) pieces)
         → (agree : Bool) → agree ≡ agreeOf layered direct
         → (q : ℕ) → q ≡ 0
-        → ReplayOf q B pieces k ws first second bins order
+        → ReplayOf q B low pieces k ws first second bins order
         (record { refusal = 0; refused = taken .refused; layered = eqb (layered .refusal) 0; agree = agree; finding = direct .finding })
         ws′ first′ second′ bins′ order′
     replayed refused agree a q none =
         let r = refused ∙ ap refusedIn (C .fed) in
         let l = ap (λ (q : ℕ). eqb q 0) layered-is in
         let g = a ∙ agreed in
-        let counts = countsOf (recordedBit B held) (blocksIn B held) (winnerOf (recordedBit B held) (blocksIn B held) B k) in
+        let counts = countsOf (recordedBit B low held) (blocksIn B held) (winnerOf (recordedBit B low held) (blocksIn B held) B k) in
         rw none (record {
           answered = λ i. record { refusal = 0; refused = r i; layered = l i; agree = g i; finding = found .finding i };
           written = ap (λ (x : State). x .words) is;

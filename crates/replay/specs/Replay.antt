@@ -1,7 +1,7 @@
 -- What a replay promises: its answer, and every lent entry afterwards.
 use mathlib.Core.Path.{_≡_}
 use Prim.Native.Nat.{ℕ, zero, suc}
-use mathlib.Core.Bool.{true, false, cond}
+use mathlib.Core.Bool.{Bool, true, false, cond}
 use mathlib.Core.List.{List, []}
 use lib.Dec.{eqb}
 use lib.ListN.{length, drop}
@@ -28,48 +28,48 @@ replayRefusal B bytes lengths k bins order =
 abbrev pub refusedReplay : ℕ → Replayed
 refusedReplay r = record { refusal = r; refused = 0; layered = false; agree = false; finding = noFinding }
 
--- the finding of width k in a recording that holds `held`
-abbrev pub heldFinding : ℕ → List ℕ → ℕ → Finding
-heldFinding B held k =
-    findingOf (recordedBit B held) (blocksIn B held) B (winnerOf (recordedBit B held) (blocksIn B held) B k)
+-- the finding of width k in a recording in this bit order that holds `held`
+abbrev pub heldFinding : ℕ → Bool → List ℕ → ℕ → Finding
+heldFinding B low held k =
+    findingOf low (recordedBit B low held) (blocksIn B held) B (winnerOf (recordedBit B low held) (blocksIn B held) B k)
 
 -- the answer, with the refusal r and stores of a and b entries: what the plain recording of the pieces says, and that the findings agree
-abbrev pub replayedOf : ℕ → ℕ → ℕ → List (List ℕ) → ℕ → ℕ → ℕ → Replayed
-replayedOf zero B words pieces k a b =
+abbrev pub replayedOf : ℕ → ℕ → Bool → ℕ → List (List ℕ) → ℕ → ℕ → ℕ → Replayed
+replayedOf zero B low words pieces k a b =
     record {
       refusal = 0;
       refused = refusedIn (refusalsFrom B words [] pieces);
       layered = eqb (storeRefusal B k a b) 0;
       agree = true;
-      finding = heldFinding B (recording B words pieces) k;
+      finding = heldFinding B low (recording B words pieces) k;
     }
-replayedOf (suc r) B words pieces k a b = refusedReplay (suc r)
+replayedOf (suc r) B low words pieces k a b = refusedReplay (suc r)
 
 -- the words afterwards: those after start and all feeds; as lent where refused
-abbrev pub wordsAfter : ℕ → ℕ → List ℕ → List (List ℕ) → List ℕ
-wordsAfter zero B ws pieces = fedAll (started B ws) pieces .words
-wordsAfter (suc r) B ws pieces = ws
+abbrev pub wordsAfter : ℕ → ℕ → Bool → List ℕ → List (List ℕ) → List ℕ
+wordsAfter zero B low ws pieces = fedAll (started B low ws) pieces .words
+wordsAfter (suc r) B low ws pieces = ws
 
--- A replay of the pieces with the refusal r: its answer and everything lent afterwards.
-pub record ReplayOf (r B : ℕ) (pieces : List (List ℕ)) (k : ℕ) (ws first second bins order : List ℕ) (answer : Replayed)
+-- A replay of the pieces in a bit order with the refusal r: its answer and everything lent afterwards.
+pub record ReplayOf (r B : ℕ) (low : Bool) (pieces : List (List ℕ)) (k : ℕ) (ws first second bins order : List ℕ) (answer : Replayed)
     (ws′ first′ second′ bins′ order′ : List ℕ) : Type 0 where
-  pub answered : answer ≡ replayedOf r B (length ws) pieces k (length first) (length second)
-  pub written : ws′ ≡ wordsAfter r B ws pieces
+  pub answered : answer ≡ replayedOf r B low (length ws) pieces k (length first) (length second)
+  pub written : ws′ ≡ wordsAfter r B low ws pieces
   -- the winner's counts and order, and past them as lent; all as lent where refused
   pub counted :
       let held = recording B (length ws) pieces in
-      bins′ ≡ binsAfter r (recordedBit B held) (blocksIn B held) B k bins
+      bins′ ≡ binsAfter r (recordedBit B low held) (blocksIn B held) B k bins
   pub ordered :
       let held = recording B (length ws) pieces in
-      order′ ≡ orderAfter r (recordedBit B held) (blocksIn B held) B k order
+      order′ ≡ orderAfter r (recordedBit B low held) (blocksIn B held) B k order
   -- where the layered search ran the first W entries of each store are free, and the rest as lent; all as lent where it did not
   pub kept :
       let free = freeAfter (orElse r (storeRefusal B k (length first) (length second))) B k in
       (drop free first′ ≡ drop free first) × (drop free second′ ≡ drop free second)
   -- the claim's conclusion: what was found is the best of the recording
-  pub best : r ≡ 0 → BestOf B (recording B (length ws) pieces) k (answer .finding) bins′ order′
+  pub best : r ≡ 0 → BestOf B low (recording B (length ws) pieces) k (answer .finding) bins′ order′
 
 -- What `replay` promises.
-abbrev pub Replay : ℕ → List ℕ → List ℕ → ℕ → List ℕ → List ℕ → List ℕ → List ℕ → List ℕ → Replayed → List ℕ → List ℕ → List ℕ → List ℕ → List ℕ → Type 0
-Replay B bytes lengths k ws first second bins order =
-    ReplayOf (replayRefusal B (length bytes) lengths k (length bins) (length order)) B (cut bytes lengths) k ws first second bins order
+abbrev pub Replay : ℕ → Bool → List ℕ → List ℕ → ℕ → List ℕ → List ℕ → List ℕ → List ℕ → List ℕ → Replayed → List ℕ → List ℕ → List ℕ → List ℕ → List ℕ → Type 0
+Replay B low bytes lengths k ws first second bins order =
+    ReplayOf (replayRefusal B (length bytes) lengths k (length bins) (length order)) B low (cut bytes lengths) k ws first second bins order

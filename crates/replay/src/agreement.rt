@@ -1,7 +1,7 @@
 // Whether two searches found the same.
 ghost use mathlib.Core.Path.{_≡_};
 ghost use Prim.Native.Nat.{_≤_, min};
-ghost use Rattle.replay.specs.Agreement.{sameTo, sameFinding, agreeOf};
+ghost use Rattle.replay.specs.Agreement.{sameTo, alike, sameFinding, agreeOf};
 use searching::finding::Finding;
 use searching::finding::Searched;
 
@@ -35,7 +35,17 @@ pub fn same_finding(a: Finding, b: Finding) -> bool
     if !same_bits(x, y, compared(a.width)) {
         return false;
     }
+    if !alike(a.low_first, b.low_first) {
+        return false;
+    }
     a.z == b.z
+}
+
+// Whether two bit orders are the same.
+fn alike(a: bool, b: bool) -> bool
+    ensures { λ r. ⌜ r ≡ alike a b ⌝ }
+{
+    if a { b } else { !b }
 }
 
 // How many bits of a width are compared: all of them, and never more than an array holds.

@@ -31,10 +31,11 @@ pub struct Replayed {
     pub finding: Finding,
 }
 
-// Feeds a recording in pieces of the given lengths to a fresh sampler of the words, and searches it: by layers where the stores suffice, and directly.
+// Feeds a recording in pieces of the given lengths to a fresh sampler of the words in the given bit order, and searches it: by layers where the stores suffice, and directly.
 // Refusals 24 (the lengths do not add up to the recording's), 1, 2, 3, 7, all before anything is written.
 pub fn replay(
     block_size: usize,
+    low_first: bool,
     recording: &[u8],
     lengths: &[usize],
     k: usize,
@@ -44,7 +45,7 @@ pub fn replay(
     bins: &mut [u32],
     order: &mut [u32],
 ) -> Replayed
-    ensures { λ r. ⌜ Replay «block_size» (now (recording .entry)) (now (lengths .entry)) k (now (words .entry)) (now (first .entry)) (now (second .entry)) (now (bins .entry)) (now (order .entry)) r (now (words .exit)) (now (first .exit)) (now (second .exit)) (now (bins .exit)) (now (order .exit)) ⌝ }
+    ensures { λ r. ⌜ Replay «block_size» «low_first» (now (recording .entry)) (now (lengths .entry)) k (now (words .entry)) (now (first .entry)) (now (second .entry)) (now (bins .entry)) (now (order .entry)) r (now (words .exit)) (now (first .exit)) (now (second .exit)) (now (bins .exit)) (now (order .exit)) ⌝ }
 {
     let refusal = replay_refusal(
         block_size,
@@ -57,7 +58,7 @@ pub fn replay(
     if refusal != 0 {
         return refused_replay(refusal);
     }
-    let started = start(block_size, words);
+    let started = start(block_size, low_first, words);
     let taken = feed_pieces(started.sampler, words, recording, lengths);
     let layered = search_layered(taken.sampler, words, k, first, second, bins, order);
     let n = blocks(taken.sampler);

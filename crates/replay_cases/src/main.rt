@@ -11,8 +11,8 @@ fn main() {
 }
 
 // For the whole of standard input.
-fn room() -> [u8; 131072]
-    ensures { λ r. ⌜ 131072 ≡ length r ⌝ }
+fn room() -> [u8; 196608]
+    ensures { λ r. ⌜ 196608 ≡ length r ⌝ }
 {
-    [0; 131072]
+    [0; 196608]
 }

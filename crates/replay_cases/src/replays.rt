@@ -1,8 +1,8 @@
-// Cases of replays: B, k, how many words, bins, entries of the order and of the two stores are lent, and how many entries of a store the layered search may
-// use; the number of the recording's bytes, and each; the number of lengths, and each.
+// Cases of replays: B, the bit order, 1 where the low bit comes first, k, how many words, bins, entries of the order and of the two stores are lent, and how
+// many entries of a store the layered search may use; the number of the recording's bytes, and each; the number of lengths, and each.
 // Answer: a line with the refusal, the number of refused feeds, whether the layered search ran, whether the findings agree, and the finding: B, width, 20
-// bits, division, the pattern of z; a line with all words, one with the whole bin buffer and one with the whole order buffer afterwards; and one with how
-// many entries of each store, past those that may be used, are no longer as lent.
+// bits, division, the pattern of z, the bit order; a line with all words, one with the whole bin buffer and one with the whole order buffer afterwards; and
+// one with how many entries of each store, past those that may be used, are no longer as lent.
 ghost use mathlib.Core.Path.{_≡_};
 ghost use lib.ListN.{length};
 use cases::entries::changed;
@@ -20,6 +20,7 @@ use replay::replay::replay;
 // What a replay is given beside the recording and its lengths, and the place reached in the text.
 struct Case {
     block_size: usize,
+    low_first: bool,
     k: usize,
     words: u64,
     bins: u64,
@@ -51,7 +52,8 @@ fn answer_one(text: &[u8], at: usize) -> usize {
 
 fn read_case(text: &[u8], at: usize) -> Case {
     let size = number(text, at);
-    let width = number(text, size.at);
+    let bit_order = number(text, size.at);
+    let width = number(text, bit_order.at);
     let words = number(text, width.at);
     let bins = number(text, words.at);
     let order = number(text, bins.at);
@@ -60,6 +62,7 @@ fn read_case(text: &[u8], at: usize) -> Case {
     let free = number(text, second.at);
     Case {
         block_size: size.value as usize,
+        low_first: bit_order.value == 1,
         k: width.value as usize,
         words: words.value,
         bins: bins.value,
@@ -141,6 +144,7 @@ fn answer(
 ) {
     let replayed = replay(
         case.block_size,
+        case.low_first,
         recording,
         lengths,
         case.k,
@@ -171,6 +175,7 @@ fn print_replayed(replayed: Replayed) {
     print_first(&bits, 20);
     print(finding.division as u64);
     print_double(finding.z);
+    print(finding.low_first as u64);
     end_line();
 }
 

@@ -45,40 +45,40 @@ use Rattle.searching.proofs.Walking.{winner-optimal}
 -- ---- an acquisition is a state of the recorder
 
 -- a start that is not refused had a valid block size
-valid-start : (B words : ℕ) → startedOf B words .refusal ≡ 0 → validSize B ≡ true
+valid-start : (B : ℕ) (low : Bool) (words : ℕ) → startedOf B low words .refusal ≡ 0 → validSize B ≡ true
 unfolding startedOf
-valid-start B words e = by-test (validSize B) refl e
+valid-start B low words e = by-test (validSize B) refl e
   where
-    by-test : (t : Bool) → validSize B ≡ t → startedOf B words .refusal ≡ 0 → validSize B ≡ true
+    by-test : (t : Bool) → validSize B ≡ t → startedOf B low words .refusal ≡ 0 → validSize B ≡ true
     by-test true p e = p
     by-test false p e = absurd (let h : _≡_ {A = ℕ} 1 0 = simp p at e in omega arith)
 
-record Stands (B : ℕ) (ws : List ℕ) (pieces : List (List ℕ)) (answers : List ℕ) (s : Sampler) (ws′ : List ℕ) : Type 0 where
-  valid : validSize B ≡ true
-  state : record { sampler = s; words = ws′ } ≡ fedAll (started B ws) pieces
-  said : answers ≡ answersFrom (started B ws) pieces
+pub record Stands (B : ℕ) (low : Bool) (ws : List ℕ) (pieces : List (List ℕ)) (answers : List ℕ) (s : Sampler) (ws′ : List ℕ) : Type 0 where
+  pub valid : validSize B ≡ true
+  pub state : record { sampler = s; words = ws′ } ≡ fedAll (started B low ws) pieces
+  pub said : answers ≡ answersFrom (started B low ws) pieces
 
-stands : {B : ℕ} {ws : List ℕ} {pieces : List (List ℕ)} {answers : List ℕ} {s : Sampler} {ws′ : List ℕ}
-    → Acquisition B ws pieces answers s ws′ → Stands B ws pieces answers s ws′
+pub stands : {B : ℕ} {low : Bool} {ws : List ℕ} {pieces : List (List ℕ)} {answers : List ℕ} {s : Sampler} {ws′ : List ℕ}
+    → Acquisition B low ws pieces answers s ws′ → Stands B low ws pieces answers s ws′
 unfolding started fed fedAll answersFrom
-stands {B} {ws} (fresh r ws′ e g z) = record {
-  valid = valid-start B (length ws) (sym (ap (λ (q : Started). q .refusal) e) ∙ z);
+stands {B} {low} {ws} (fresh r ws′ e g z) = record {
+  valid = valid-start B low (length ws) (sym (ap (λ (q : Started). q .refusal) e) ∙ z);
   state = λ i. record { sampler = e i .sampler; words = g i };
   said = refl;
 }
-stands {B} {ws} (next {pieces} {answers} {s} {ws′} before p r ws″ e g) =
+stands {B} {low} {ws} (next {pieces} {answers} {s} {ws′} before p r ws″ e g) =
     let S = stands before in
-    let st = fedAll (started B ws) pieces in
+    let st = fedAll (started B low ws) pieces in
     let is : record { sampler = r .sampler; words = ws″ } ≡ fed (record { sampler = s; words = ws′ }) p = λ i. record { sampler = e i .sampler; words = g i } in
     record {
       valid = S .valid;
-      state = is ∙ ap (λ (q : State). fed q p) (S .state) ∙ sym (fedAll-snoc (started B ws) pieces p);
+      state = is ∙ ap (λ (q : State). fed q p) (S .state) ∙ sym (fedAll-snoc (started B low ws) pieces p);
       said = ap₂ (λ (l : List ℕ) (a : ℕ). l ++ (a ∷ [])) (S .said) (ap (λ (q : Fed). q .refusal) e ∙ ap (λ (q : State). fedOf (q .sampler) (length (q .words)) (length p) .refusal) (S .state))
-          ∙ sym (answers-snoc (started B ws) pieces p);
+          ∙ sym (answers-snoc (started B low ws) pieces p);
     }
 
 -- the block size of an acquisition is valid
-pub acquired-valid : {B : ℕ} {ws : List ℕ} {pieces : List (List ℕ)} {answers : List ℕ} {s : Sampler} {ws′ : List ℕ} → Acquisition B ws pieces answers s ws′ → validSize B ≡ true
+pub acquired-valid : {B : ℕ} {low : Bool} {ws : List ℕ} {pieces : List (List ℕ)} {answers : List ℕ} {s : Sampler} {ws′ : List ℕ} → Acquisition B low ws pieces answers s ws′ → validSize B ≡ true
 acquired-valid acquired = stands acquired .valid
 
 -- ---- what is best in one sample is best in another that agrees with it
@@ -105,13 +105,13 @@ module _ (B n k : ℕ) (bit bit′ : ℕ → ℕ → ℕ) (agree : AgreeBelow n 
 
 -- ---- the search of the words is a search of the recording
 
-abbrev sampler-of : ℕ → ℕ → ℕ → Sampler
-sampler-of B words taken = record { «block_size» = B; words = words; taken = taken }
+abbrev sampler-of : ℕ → Bool → ℕ → ℕ → Sampler
+sampler-of B low words taken = record { «block_size» = B; words = words; taken = taken; «low_first» = low }
 
-module _ (B words : ℕ) (held ws : List ℕ) (ok : validSize B ≡ true) (lent : length ws ≡ words) (within : length held ≤ capacityBytes B words)
-    (agree : AgreeBelow (blocksIn B held) B (storedBit (stride B words) ws) (recordedBit B held)) (first end k : ℕ) where
+module _ (B : ℕ) (low : Bool) (words : ℕ) (held ws : List ℕ) (ok : validSize B ≡ true) (lent : length ws ≡ words) (within : length held ≤ capacityBytes B words)
+    (agree : AgreeBelow (blocksIn B held) B (storedBit (stride B words) ws) (recordedBit B low held)) (first end k : ℕ) where
   abbrev s : Sampler
-  s = sampler-of B words (length held)
+  s = sampler-of B low words (length held)
 
   abbrev n : ℕ
   n = end - first
@@ -120,13 +120,13 @@ module _ (B words : ℕ) (held ws : List ℕ) (ok : validSize B ≡ true) (lent 
   bit = stretchBit (stretchOf s (length ws) first end) ws
 
   abbrev told : ℕ → ℕ → ℕ
-  told = onward first (recordedBit B held)
+  told = onward first (recordedBit B low held)
 
   -- where the recording has its blocks, the stretch of the words is that of the recording
   pub agrees : end ≤ blocksIn B held → AgreeBelow n B bit told
   unfolding stretchBit
   agrees has e b le lb =
-      let whole : AgreeBelow (blocksIn B held) B (storedBit (stride B (length ws)) ws) (recordedBit B held) = rw lent agree in
+      let whole : AgreeBelow (blocksIn B held) B (storedBit (stride B (length ws)) ws) (recordedBit B low held) = rw lent agree in
       whole (first + e) b (omega arith) lb
 
   pub usable-is : samplerRefusal s (length ws) ≡ 0
@@ -159,7 +159,7 @@ module _ (B words : ℕ) (held ws : List ℕ) (ok : validSize B ≡ true) (lent 
 
   best-of : end ≤ blocksIn B held → k ≤ B → (bins order : List ℕ)
       → let W = winnerOf bit n B k in
-      Best told n B k (findingOf bit n B W) (countsOf bit n W ++ drop (2 ^ k) bins) (orderOf (countsOf bit n W) ++ drop (2 ^ k) order)
+      Best low told n B k (findingOf low bit n B W) (countsOf bit n W ++ drop (2 ^ k) bins) (orderOf (countsOf bit n W) ++ drop (2 ^ k) order)
   best-of has chosen bins order =
       let W = winnerOf bit n B k in
       let opt = winner-optimal bit n B k chosen in
@@ -173,6 +173,7 @@ module _ (B words : ℕ) (held ws : List ℕ) (ok : validSize B ≡ true) (lent 
       record {
         block = refl;
         width = opt .subset .size;
+        bitOrder = refl;
         chosen = rw front (opt .subset);
         zeros = ap padded (sym front);
         counted = counts ∙ counts-agree B n k bit told (agrees has) W (opt .subset) ∙ ap (countsOf told n) (sym front);
@@ -187,19 +188,19 @@ module _ (B words : ℕ) (held ws : List ℕ) (ok : validSize B ≡ true) (lent 
 
   -- a search that was not refused found the best
   search-best : (r : ℕ) (bins order : List ℕ) (answer : Searched) (bins′ order′ : List ℕ) → StretchSearch r s ws first end k bins order answer bins′ order′
-      → (r ≡ 0 → SearchFree s (length ws) first end k) → answer .refusal ≡ 0 → BestIn B held first end k (answer .finding) bins′ order′
+      → (r ≡ 0 → SearchFree s (length ws) first end k) → answer .refusal ≡ 0 → BestIn B low held first end k (answer .finding) bins′ order′
   search-best zero bins order answer bins′ order′ S free z =
       let f = free refl in
-      subst (λ (f : Finding). BestIn B held first end k f bins′ order′) (sym (ap (λ (q : Searched). q .finding) (S .answered)))
+      subst (λ (f : Finding). BestIn B low held first end k f bins′ order′) (sym (ap (λ (q : Searched). q .finding) (S .answered)))
       (rw (S .counted, S .ordered) (best-of (f .ordered .held) (f .width .chosen) bins order))
-  search-best (suc r) bins order answer bins′ order′ S free z = absurd (omega (arith, said-is (suc r) bit n B k answer (S .answered)))
+  search-best (suc r) bins order answer bins′ order′ S free z = absurd (omega (arith, said-is (suc r) low bit n B k answer (S .answered)))
 
   -- what holds of a search with the refusal r
   search-claim : (r : ℕ) (Room : Type 0) (bins order : List ℕ) (answer : Searched) (bins′ order′ : List ℕ) → StretchSearch r s ws first end k bins order answer bins′ order′
       → ((end < first) ⊎ (blocksIn B held < end) → r ≡ 18) → (first ≤ end → end ≤ blocksIn B held → Room → r ≡ 0)
-      → (r ≡ 0 → SearchFree s (length ws) first end k) → SearchClaim B held first end k Room answer bins′ order′
+      → (r ≡ 0 → SearchFree s (length ws) first end k) → SearchClaim B low held first end k Room answer bins′ order′
   search-claim r Room bins order answer bins′ order′ S out is free =
-      let said : answer .refusal ≡ r = said-is r bit n B k answer (S .answered) in
+      let said : answer .refusal ≡ r = said-is r low bit n B k answer (S .answered) in
       record {
         outside = λ o. said ∙ out o;
         succeeds = λ order has room. said ∙ is order has room;
@@ -216,7 +217,7 @@ module _ (B words : ℕ) (held ws : List ℕ) (ok : validSize B ≡ true) (lent 
   direct-is bins order fe has (some, width, chosen, p, q) = simp (usable-is, stretch-is fe has, width-is some width chosen, buffer-is (length bins) (length order) p q)
 
   direct-claim : (bins order : List ℕ) (r : Searched) (bins′ order′ : List ℕ)
-      → DirectSearch s ws first end k bins order r bins′ order′ → SearchClaim B held first end k (DirectRoom B k bins order) r bins′ order′
+      → DirectSearch s ws first end k bins order r bins′ order′ → SearchClaim B low held first end k (DirectRoom B k bins order) r bins′ order′
   direct-claim bins order r bins′ order′ S =
       search-claim _ (DirectRoom B k bins order) bins order r bins′ order′ S (direct-out (length bins) (length order)) (direct-is bins order)
       (λ z. direct-free s (length ws) first end k (length bins) (length order) z .search)
@@ -237,7 +238,7 @@ module _ (B words : ℕ) (held ws : List ℕ) (ok : validSize B ≡ true) (lent 
 
   layered-claim : (lower upper bins order : List ℕ) (r : Searched) (lower′ upper′ bins′ order′ : List ℕ)
       → LayeredSearch s ws first end k lower upper bins order r lower′ upper′ bins′ order′
-      → SearchClaim B held first end k (LayeredRoom B k lower upper bins order) r bins′ order′
+      → SearchClaim B low held first end k (LayeredRoom B k lower upper bins order) r bins′ order′
   layered-claim lower upper bins order r lower′ upper′ bins′ order′ S =
       search-claim _ (LayeredRoom B k lower upper bins order) bins order r bins′ order′ (S .search)
       (layered-out (length lower) (length upper) (length bins) (length order)) (layered-is lower upper bins order)
@@ -258,8 +259,8 @@ module _ (B words : ℕ) (held ws : List ℕ) (ok : validSize B ≡ true) (lent 
         orders = ap (take (2 ^ k)) (S .ordered) ∙ replaced-first (2 ^ k) (orderOf counts) order (length-order bit n W ∙ size)
             ∙ sym (ap (take (2 ^ k)) (L .ordered) ∙ replaced-first (2 ^ k) (orderOf counts) orderₗ (length-order bit n W ∙ size));
       }
-  search-same (suc q) q′ bins order r bins′ order′ binsₗ orderₗ rₗ binsₗ′ orderₗ′ S L chosen z y = absurd (omega (arith, said-is (suc q) bit n B k r (S .answered)))
-  search-same zero (suc q′) bins order r bins′ order′ binsₗ orderₗ rₗ binsₗ′ orderₗ′ S L chosen z y = absurd (omega (arith, said-is (suc q′) bit n B k rₗ (L .answered)))
+  search-same (suc q) q′ bins order r bins′ order′ binsₗ orderₗ rₗ binsₗ′ orderₗ′ S L chosen z y = absurd (omega (arith, said-is (suc q) low bit n B k r (S .answered)))
+  search-same zero (suc q′) bins order r bins′ order′ binsₗ orderₗ rₗ binsₗ′ orderₗ′ S L chosen z y = absurd (omega (arith, said-is (suc q′) low bit n B k rₗ (L .answered)))
 
   both-same : (bins order : List ℕ) (r : Searched) (bins′ order′ : List ℕ) → DirectSearch s ws first end k bins order r bins′ order′
       → (lower upper binsₗ orderₗ : List ℕ) (rₗ : Searched) (lower′ upper′ binsₗ′ orderₗ′ : List ℕ)
@@ -268,33 +269,33 @@ module _ (B words : ℕ) (held ws : List ℕ) (ok : validSize B ≡ true) (lent 
   both-same bins order r bins′ order′ S lower upper binsₗ orderₗ rₗ lower′ upper′ binsₗ′ orderₗ′ L z y =
       let d = directRefusal s (length ws) first end k (length bins) (length order) in
       search-same d _ bins order r bins′ order′ binsₗ orderₗ rₗ binsₗ′ orderₗ′ S (L .search)
-      (direct-free s (length ws) first end k (length bins) (length order) (sym (said-is d bit n B k r (S .answered)) ∙ z) .search .width .chosen) z y
+      (direct-free s (length ws) first end k (length bins) (length order) (sym (said-is d low bit n B k r (S .answered)) ∙ z) .search .width .chosen) z y
 
 -- ---- every acquisition
 
 -- the sampler and the words are those of the recording
-pub recorder : (B : ℕ) (ws : List ℕ) (pieces : List (List ℕ)) (answers : List ℕ) (s : Sampler) (ws′ : List ℕ) → Acquisition B ws pieces answers s ws′
-    → HoldsRecording B (length ws) (record { sampler = s; words = ws′ }) (recording B (length ws) pieces)
-recorder B ws pieces answers s ws′ acquired =
+pub recorder : (B : ℕ) (low : Bool) (ws : List ℕ) (pieces : List (List ℕ)) (answers : List ℕ) (s : Sampler) (ws′ : List ℕ) → Acquisition B low ws pieces answers s ws′
+    → HoldsRecording B low (length ws) (record { sampler = s; words = ws′ }) (recording B (length ws) pieces)
+recorder B low ws pieces answers s ws′ acquired =
     let S = stands acquired in
-    subst (λ (st : State). HoldsRecording B (length ws) st (recording B (length ws) pieces)) (sym (S .state)) (all-recorded B ws (S .valid) pieces .holds)
+    subst (λ (st : State). HoldsRecording B low (length ws) st (recording B (length ws) pieces)) (sym (S .state)) (all-recorded B low ws (S .valid) pieces .holds)
 
 pub claims : Claims
-claims B ws pieces answers s ws′ acquired =
+claims B low ws pieces answers s ws′ acquired =
     let S = stands acquired in
     let held = recording B (length ws) pieces in
-    let H = recorder B ws pieces answers s ws′ acquired in
+    let H = recorder B low ws pieces answers s ws′ acquired in
     let is = H .sampler in
     record {
-      fed = S .said ∙ all-recorded B ws (S .valid) pieces .answers;
+      fed = S .said ∙ all-recorded B low ws (S .valid) pieces .answers;
       direct = λ first end k bins order r bins′ order′ P.
-          direct-claim B (length ws) held ws′ (S .valid) (H .lent) (H .within) (H .stored) first end k bins order r bins′ order′
+          direct-claim B low (length ws) held ws′ (S .valid) (H .lent) (H .within) (H .stored) first end k bins order r bins′ order′
           (subst (λ (q : Sampler). DirectSearch q ws′ first end k bins order r bins′ order′) is P);
       layered = λ first end k lower upper bins order r lower′ upper′ bins′ order′ P.
-          layered-claim B (length ws) held ws′ (S .valid) (H .lent) (H .within) (H .stored) first end k lower upper bins order r lower′ upper′ bins′ order′
+          layered-claim B low (length ws) held ws′ (S .valid) (H .lent) (H .within) (H .stored) first end k lower upper bins order r lower′ upper′ bins′ order′
           (subst (λ (q : Sampler). LayeredSearch q ws′ first end k lower upper bins order r lower′ upper′ bins′ order′) is P);
       same = λ first end k bins order r bins′ order′ P lower upper binsₗ orderₗ rₗ lower′ upper′ binsₗ′ orderₗ′ L z y.
-          both-same B (length ws) held ws′ (S .valid) (H .lent) (H .within) (H .stored) first end k bins order r bins′ order′
+          both-same B low (length ws) held ws′ (S .valid) (H .lent) (H .within) (H .stored) first end k bins order r bins′ order′
           (subst (λ (q : Sampler). DirectSearch q ws′ first end k bins order r bins′ order′) is P) lower upper binsₗ orderₗ rₗ lower′ upper′ binsₗ′ orderₗ′
           (subst (λ (q : Sampler). LayeredSearch q ws′ first end k lower upper binsₗ orderₗ rₗ lower′ upper′ binsₗ′ orderₗ′) is L) z y;
     }

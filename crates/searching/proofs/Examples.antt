@@ -1,7 +1,7 @@
 -- The worked examples, computed.
 use mathlib.Core.Path.{refl}
 use lib.Ieee.{lt, mul, sub, div, ofInt, round, add, neg}
-use Rattle.counting.specs.Block.{binOf, blockBit}
+use Rattle.counting.specs.Block.{binOf, placeIn, blockBit}
 use Rattle.counting.specs.Recording.{recordedBit}
 use Rattle.counting.specs.Sample.{countIn, listOf, countsOf, total}
 use Rattle.scoring.specs.Halves.{part}
@@ -17,12 +17,14 @@ use Rattle.searching.specs.Finding.{winnerOf}
 use Rattle.searching.specs.Examples.{SearchExamples}
 
 pub search-examples : SearchExamples
-unfolding winnerOf recordedBit blockBit binOf countIn listOf countsOf total part root rootAt isqrt isqrtFrom deviation zOver zScore abs before insertBin sortBins orderOf peak inBinOrder sizeAt scoreOf lt mul sub div ofInt round add neg
+unfolding winnerOf recordedBit placeIn blockBit binOf countIn listOf countsOf total part root rootAt isqrt isqrtFrom deviation zOver zScore abs before insertBin sortBins orderOf peak inBinOrder sizeAt scoreOf lt mul sub div ofInt round add neg
 search-examples = record {
   always = record { chosen = refl; ordered = refl; ranked = refl };
   ties = record { chosen = refl; ordered = refl; ranked = refl };
   empty = record { chosen = refl; ordered = refl; ranked = refl };
   together = record { chosen = refl; ordered = refl; ranked = refl };
+  low = record { chosen = refl; ordered = refl; ranked = refl };
+  high = record { chosen = refl; ordered = refl; ranked = refl };
   ranks = ranks-of-eight;
   stores = stores-of-eight;
 }

@@ -5,4 +5,5 @@ pub mod Climbing
 pub mod Refusing
 pub mod Claiming
 pub mod Stretches
+pub mod Reversing
 pub mod Examples

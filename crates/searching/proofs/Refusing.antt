@@ -1,5 +1,5 @@
 -- The refusals of a search: what a refusal of 0 tells, and what is promised where there is one and where there is none.
-use mathlib.Core.Path.{_≡_, refl, ap, subst}
+use mathlib.Core.Path.{_≡_, refl, ap, subst, _∙_}
 use mathlib.Core.Bool.{Bool, true, false, cond}
 use mathlib.Core.List.{List}
 use Prim.Native.Nat.{ℕ, zero, suc, _/_, _^_, _≤_, _<_}
@@ -17,7 +17,7 @@ use Rattle.layers.specs.Size.{storeRefusal}
 use Rattle.layers.proofs.Sizing.{stores-suffice}
 use Rattle.subsets.specs.Bits.{validWidth}
 use Rattle.subsets.proofs.Refusing.{width-bounds}
-use Rattle.searching.specs.Finding.{refusedWith}
+use Rattle.searching.specs.Finding.{marked, refusedWith}
 use Rattle.searching.specs.Refusal.{orElse, widthRefusal, bufferRefusal, searchRefusal, directRefusal, layeredRefusal}
 use Rattle.searching.specs.Pass.{Searchable, Suffice, Won}
 use Rattle.searching.specs.Search.{Search, StretchSearch, answerOf}
@@ -128,18 +128,22 @@ layered-free s words first end k a b bins order e =
 -- ---- the promise
 
 -- the refusal that is answered
-pub said-is : (r : ℕ) (bit : ℕ → ℕ → ℕ) (n B k : ℕ) (answer : Searched) → answer ≡ answerOf r bit n B k → answer .refusal ≡ r
-said-is zero bit n B k answer e = ap (λ (q : Searched). q .refusal) e
-said-is (suc r) bit n B k answer e = ap (λ (q : Searched). q .refusal) e
+pub said-is : (r : ℕ) (low : Bool) (bit : ℕ → ℕ → ℕ) (n B k : ℕ) (answer : Searched) → answer ≡ answerOf r low bit n B k → answer .refusal ≡ r
+said-is zero low bit n B k answer e = ap (λ (q : Searched). q .refusal) e
+said-is (suc r) low bit n B k answer e = ap (λ (q : Searched). q .refusal) e
 
-pub search-refused : (r : ℕ) (bit : ℕ → ℕ → ℕ) (n B k : ℕ) (bins order : List ℕ) (answer : Searched)
-    → (r ≡ 0 → ⊥) → answer ≡ refusedWith r → Search r bit n B k bins order answer bins order
-search-refused zero bit n B k bins order answer h e = absurd (h refl)
-search-refused (suc r) bit n B k bins order answer h e = record { answered = e; counted = refl; ordered = refl }
+pub search-refused : (r : ℕ) (low : Bool) (bit : ℕ → ℕ → ℕ) (n B k : ℕ) (bins order : List ℕ) (answer : Searched)
+    → (r ≡ 0 → ⊥) → answer ≡ refusedWith r → Search r low bit n B k bins order answer bins order
+search-refused zero low bit n B k bins order answer h e = absurd (h refl)
+search-refused (suc r) low bit n B k bins order answer h e = record { answered = e; counted = refl; ordered = refl }
 
-pub search-found : (r : ℕ) (s : Sampler) (ws : List ℕ) (first end k : ℕ) (x : Stretch) (bins order : List ℕ) (f : Finding) (bins′ order′ : List ℕ)
-    → x ≡ stretchOf s (length ws) first end → r ≡ 0 → Won (stretchBit x ws) (span x) (x .«block_size») k bins order f bins′ order′
-    → StretchSearch r s ws first end k bins order (record { refusal = 0; finding = f }) bins′ order′
-search-found r s ws first end k x bins order f bins′ order′ is e won =
+pub search-found : (r : ℕ) (s : Sampler) (ws : List ℕ) (first end k : ℕ) (x : Stretch) (bins order : List ℕ) (f g : Finding) (bins′ order′ : List ℕ)
+    → x ≡ stretchOf s (length ws) first end → r ≡ 0 → Won (stretchBit x ws) (span x) (x .«block_size») k bins order f bins′ order′ → g ≡ marked (s .«low_first») f
+    → StretchSearch r s ws first end k bins order (record { refusal = 0; finding = g }) bins′ order′
+search-found r s ws first end k x bins order f g bins′ order′ is e won mark =
     let w = subst (λ (y : Stretch). Won (stretchBit y ws) (span y) (y .«block_size») k bins order f bins′ order′) is won in
-    rw e (record { answered = ap (λ (g : Finding). record { refusal = 0; finding = g }) (w .found); counted = w .counted; ordered = w .ordered })
+    rw e (record {
+      answered = ap (λ (h : Finding). record { refusal = 0; finding = h }) (mark ∙ ap (marked (s .«low_first»)) (w .found));
+      counted = w .counted;
+      ordered = w .ordered;
+    })

@@ -1,6 +1,7 @@
 -- A stretch from 0 to n is the whole of what was recorded (theorems `whole-stretches`, `whole-recordings`), and any stretch is a recording of its blocks
 -- alone (`best-alone`).
 use mathlib.Core.Path.{_≡_, refl, sym, ap, subst, _∙_}
+use mathlib.Core.Bool.{Bool}
 use mathlib.Core.Logic.{_⊎_}
 use mathlib.Core.List.{List}
 use Prim.Native.Nat.{ℕ, zero, suc, _-_, zero-le}
@@ -42,25 +43,26 @@ whole-stretches s words = record {
   direct = λ k bins order. rw (never-outside s) (or-assoc (samplerRefusal s words) _ _);
   layered = λ k a b bins order. rw (never-outside s) (or-assoc (samplerRefusal s words) _ _);
   search = λ ws r k bins order answer bins′ order′ S.
-      from-none (λ bit n. Search r bit n (s .«block_size») k bins order answer bins′ order′) (sampleOf s ws) (blocksOf s) S;
+      from-none (λ bit n. Search r (s .«low_first») bit n (s .«block_size») k bins order answer bins′ order′) (sampleOf s ws) (blocksOf s) S;
 }
 
 pub whole-recordings : WholeRecordings
-whole-recordings B ws pieces answers s ws′ acquired =
-    let H = recorder B ws pieces answers s ws′ acquired in
+whole-recordings B low ws pieces answers s ws′ acquired =
+    let H = recorder B low ws pieces answers s ws′ acquired in
     let is : blocksOf s ≡ blocksIn B (recording B (length ws) pieces) = ap blocksOf (H .sampler) in
     record {
       blocks = is;
       best = λ k f bins order b.
-          let bit = recordedBit B (recording B (length ws) pieces) in
-          subst (λ (n : ℕ). Best bit n B k f bins order) is (from-none (λ g n. Best g n B k f bins order) bit (blocksOf s) b);
+          let bit = recordedBit B low (recording B (length ws) pieces) in
+          subst (λ (n : ℕ). Best low bit n B k f bins order) is (from-none (λ g n. Best low g n B k f bins order) bit (blocksOf s) b);
     }
 
 -- what is best in a sample is best in another that agrees with it
-best-agrees : (bit bit′ : ℕ → ℕ → ℕ) (n B k : ℕ) (f : Finding) (bins order : List ℕ) → AgreeBelow n B bit bit′ → Best bit n B k f bins order → Best bit′ n B k f bins order
-best-agrees bit bit′ n B k f bins order agree b = record {
+best-agrees : (low : Bool) (bit bit′ : ℕ → ℕ → ℕ) (n B k : ℕ) (f : Finding) (bins order : List ℕ) → AgreeBelow n B bit bit′ → Best low bit n B k f bins order → Best low bit′ n B k f bins order
+best-agrees low bit bit′ n B k f bins order agree b = record {
   block = b .block;
   width = b .width;
+  bitOrder = b .bitOrder;
   chosen = b .chosen;
   zeros = b .zeros;
   counted = b .counted ∙ counts-agree B n k bit bit′ agree (take k (f .bits)) (b .chosen);
@@ -71,7 +73,7 @@ best-agrees bit bit′ n B k f bins order agree b = record {
 }
 
 pub best-alone : BestAlone
-best-alone B held first end k f bins order ok fe has b =
-    let A = stretches-alone B held first end ok fe has in
-    let bit = recordedBit B (stretchBytes B held first end) in
-    subst (λ (n : ℕ). Best bit n B k f bins order) (sym (A .blocks)) (best-agrees (onward first (recordedBit B held)) bit (end - first) B k f bins order (A .bits) b)
+best-alone B low held first end k f bins order ok fe has b =
+    let A = stretches-alone B low held first end ok fe has in
+    let bit = recordedBit B low (stretchBytes B held first end) in
+    subst (λ (n : ℕ). Best low bit n B k f bins order) (sym (A .blocks)) (best-agrees low (onward first (recordedBit B low held)) bit (end - first) B k f bins order (A .bits) b)

@@ -2,6 +2,7 @@
 use mathlib.Core.Path.{_≡_}
 use mathlib.Core.Logic.{_⊎_}
 use Prim.Native.Nat.{ℕ, _-_, _^_, _≤_, _<_}
+use mathlib.Core.Bool.{Bool}
 use mathlib.Core.List.{List, [], _∷_, _++_}
 use lib.Dec.{T}
 use lib.Ieee.{lt}
@@ -21,18 +22,20 @@ use Rattle.searching.specs.Search.{DirectSearch, LayeredSearch}
 use Rattle.searching.specs.declared.finding.Finding.{Finding}
 use Rattle.searching.specs.declared.finding.Searched.{Searched}
 
--- An acquisition: a start of B on the words ws that is not refused, and feeds of the pieces after it, each given the sampler last returned and the words
+-- An acquisition: a start of B in a bit order on the words ws that is not refused, and feeds of the pieces after it, each given the sampler last returned and the words
 -- as they are then; what each feed answered, the sampler last returned and the words. Only the promises of `start` and `feed` are used.
-pub data Acquisition (B : ℕ) (ws : List ℕ) : List (List ℕ) → List ℕ → Sampler → List ℕ → Type 0 where
-  fresh : (r : Started) (ws′ : List ℕ) → r ≡ startedOf B (length ws) → ws′ ≡ startedWords B ws → r .refusal ≡ 0 → Acquisition B ws [] [] (r .sampler) ws′
-  next : {pieces : List (List ℕ)} {answers : List ℕ} {s : Sampler} {ws′ : List ℕ} → Acquisition B ws pieces answers s ws′
+pub data Acquisition (B : ℕ) (low : Bool) (ws : List ℕ) : List (List ℕ) → List ℕ → Sampler → List ℕ → Type 0 where
+  fresh : (r : Started) (ws′ : List ℕ) → r ≡ startedOf B low (length ws) → ws′ ≡ startedWords B ws → r .refusal ≡ 0 → Acquisition B low ws [] [] (r .sampler) ws′
+  next : {pieces : List (List ℕ)} {answers : List ℕ} {s : Sampler} {ws′ : List ℕ} → Acquisition B low ws pieces answers s ws′
       → (piece : List ℕ) (r : Fed) (ws″ : List ℕ) → r ≡ fedOf s (length ws′) (length piece) → ws″ ≡ fedWords s ws′ piece
-      → Acquisition B ws (pieces ++ (piece ∷ [])) (answers ++ (r .refusal ∷ [])) (r .sampler) ws″
+      → Acquisition B low ws (pieces ++ (piece ∷ [])) (answers ++ (r .refusal ∷ [])) (r .sampler) ws″
 
--- The finding f, with the counts and the order left in the buffers, is the best of width k in the sample of n blocks of B bits.
-pub record Best (bit : ℕ → ℕ → ℕ) (n B k : ℕ) (f : Finding) (bins order : List ℕ) : Type 0 where
+-- The finding f, with the counts and the order left in the buffers, is the best of width k in the sample of n blocks of B bits, in
+-- the bit order.
+pub record Best (low : Bool) (bit : ℕ → ℕ → ℕ) (n B k : ℕ) (f : Finding) (bins order : List ℕ) : Type 0 where
   pub block : f .«block_size» ≡ B
   pub width : f .width ≡ k
+  pub bitOrder : f .«low_first» ≡ low
   -- the chosen bits, with zeros past them
   pub chosen : Subset B k (take k (f .bits))
   pub zeros : f .bits ≡ padded (take k (f .bits))
@@ -46,20 +49,20 @@ pub record Best (bit : ℕ → ℕ → ℕ) (n B k : ℕ) (f : Finding) (bins or
   pub beats : (t : List ℕ) → Subset B k t
       → (t ≡ take k (f .bits)) ⊎ (T (lt (zOf bit n t) (f .z)) ⊎ ((zOf bit n t ≡ f .z) × T (lexLt (take k (f .bits)) t)))
 
--- .. in the blocks from `first` to before `end` of the recording that holds `held`.
-abbrev pub BestIn : ℕ → List ℕ → ℕ → ℕ → ℕ → Finding → List ℕ → List ℕ → Type 0
-BestIn B held first end k = Best (onward first (recordedBit B held)) (end - first) B k
+-- .. in the blocks from `first` to before `end` of the recording in this bit order that holds `held`.
+abbrev pub BestIn : ℕ → Bool → List ℕ → ℕ → ℕ → ℕ → Finding → List ℕ → List ℕ → Type 0
+BestIn B low held first end k = Best low (onward first (recordedBit B low held)) (end - first) B k
 
 -- .. in all its blocks.
-abbrev pub BestOf : ℕ → List ℕ → ℕ → Finding → List ℕ → List ℕ → Type 0
-BestOf B held k = Best (recordedBit B held) (blocksIn B held) B k
+abbrev pub BestOf : ℕ → Bool → List ℕ → ℕ → Finding → List ℕ → List ℕ → Type 0
+BestOf B low held k = Best low (recordedBit B low held) (blocksIn B held) B k
 
 -- What holds of a search after an acquisition of the pieces: it is refused with 18 where the recording has not the blocks of the stretch, it succeeds where
 -- it has and `Room` is there, and where it succeeds it has found the best of these blocks.
-pub record SearchClaim (B : ℕ) (held : List ℕ) (first end k : ℕ) (Room : Type 0) (r : Searched) (bins′ order′ : List ℕ) : Type 0 where
+pub record SearchClaim (B : ℕ) (low : Bool) (held : List ℕ) (first end k : ℕ) (Room : Type 0) (r : Searched) (bins′ order′ : List ℕ) : Type 0 where
   pub outside : (end < first) ⊎ (blocksIn B held < end) → r .refusal ≡ 18
   pub succeeds : first ≤ end → end ≤ blocksIn B held → Room → r .refusal ≡ 0
-  pub best : r .refusal ≡ 0 → BestIn B held first end k (r .finding) bins′ order′
+  pub best : r .refusal ≡ 0 → BestIn B low held first end k (r .finding) bins′ order′
 
 -- width and buffers suffice for the direct search
 abbrev pub DirectRoom : ℕ → ℕ → List ℕ → List ℕ → Type 0
@@ -78,16 +81,16 @@ pub record Same (k : ℕ) (r : Searched) (bins order : List ℕ) (r′ : Searche
 
 -- What holds after an acquisition: a feed was refused just where the plain recording refuses it, each search of a stretch finds the best of its blocks, and
 -- where both succeed they are the same.
-pub record Claim (B : ℕ) (ws : List ℕ) (pieces : List (List ℕ)) (answers : List ℕ) (s : Sampler) (ws′ : List ℕ) : Type 0 where
+pub record Claim (B : ℕ) (low : Bool) (ws : List ℕ) (pieces : List (List ℕ)) (answers : List ℕ) (s : Sampler) (ws′ : List ℕ) : Type 0 where
   pub fed : answers ≡ refusalsFrom B (length ws) [] pieces
   pub direct :
       (first end k : ℕ) (bins order : List ℕ) (r : Searched) (bins′ order′ : List ℕ)
       → DirectSearch s ws′ first end k bins order r bins′ order′
-      → SearchClaim B (recording B (length ws) pieces) first end k (DirectRoom B k bins order) r bins′ order′
+      → SearchClaim B low (recording B (length ws) pieces) first end k (DirectRoom B k bins order) r bins′ order′
   pub layered :
       (first end k : ℕ) (lower upper bins order : List ℕ) (r : Searched) (lower′ upper′ bins′ order′ : List ℕ)
       → LayeredSearch s ws′ first end k lower upper bins order r lower′ upper′ bins′ order′
-      → SearchClaim B (recording B (length ws) pieces) first end k (LayeredRoom B k lower upper bins order) r bins′ order′
+      → SearchClaim B low (recording B (length ws) pieces) first end k (LayeredRoom B k lower upper bins order) r bins′ order′
   pub same :
       (first end k : ℕ) (bins order : List ℕ) (r : Searched) (bins′ order′ : List ℕ) → DirectSearch s ws′ first end k bins order r bins′ order′
       → (lower upper binsₗ orderₗ : List ℕ) (rₗ : Searched) (lower′ upper′ binsₗ′ orderₗ′ : List ℕ)
@@ -97,5 +100,5 @@ pub record Claim (B : ℕ) (ws : List ℕ) (pieces : List (List ℕ)) (answers :
 -- Theorem: that holds after every acquisition.
 abbrev pub Claims : Type 0
 Claims =
-    (B : ℕ) (ws : List ℕ) (pieces : List (List ℕ)) (answers : List ℕ) (s : Sampler) (ws′ : List ℕ)
-    → Acquisition B ws pieces answers s ws′ → Claim B ws pieces answers s ws′
+    (B : ℕ) (low : Bool) (ws : List ℕ) (pieces : List (List ℕ)) (answers : List ℕ) (s : Sampler) (ws′ : List ℕ)
+    → Acquisition B low ws pieces answers s ws′ → Claim B low ws pieces answers s ws′

@@ -1,6 +1,7 @@
 -- The search of a sample: every k-subset is ranked by its counts, and the first with the greatest z is found.
 use mathlib.Core.Path.{_≡_}
 use Prim.Native.Nat.{ℕ, _≤_}
+use mathlib.Core.Bool.{Bool, false}
 use mathlib.Core.List.{List}
 use lib.Ieee.{Float, lt}
 use lib.ListN.{length, replicate}
@@ -45,20 +46,26 @@ pub record EmptySample (bit : ℕ → ℕ → ℕ) : Type 0 where
 abbrev pub EmptySamples : Type 0
 EmptySamples = (bit : ℕ → ℕ → ℕ) → EmptySample bit
 
--- a subset as a finding
-abbrev pub findingOf : (ℕ → ℕ → ℕ) → ℕ → ℕ → List ℕ → Finding
-findingOf bit n B bits =
+-- a subset as a finding, in a bit order
+abbrev pub findingOf : Bool → (ℕ → ℕ → ℕ) → ℕ → ℕ → List ℕ → Finding
+findingOf low bit n B bits =
     record {
       «block_size» = B;
       width = length bits;
       bits = padded bits;
       division = rankingOf bit n bits .division;
       z = rankingOf bit n bits .z;
+      «low_first» = low;
     }
 
--- beside a refusal every field is 0
+-- the finding in this bit order
+abbrev pub marked : Bool → Finding → Finding
+marked low f =
+    record { «block_size» = f .«block_size»; width = f .width; bits = f .bits; division = f .division; z = f .z; «low_first» = low }
+
+-- beside a refusal every field is 0, which is the high bit first
 abbrev pub noFinding : Finding
-noFinding = record { «block_size» = 0; width = 0; bits = replicate 20 0; division = 0; z = zeroScore }
+noFinding = record { «block_size» = 0; width = 0; bits = replicate 20 0; division = 0; z = zeroScore; «low_first» = false }
 
 abbrev pub refusedWith : ℕ → Searched
 refusedWith r = record { refusal = r; finding = noFinding }

@@ -6,4 +6,5 @@ pub mod Pass
 pub mod Search
 pub mod Claim
 pub mod Stretches
+pub mod Reversed
 pub mod Examples

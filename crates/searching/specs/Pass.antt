@@ -1,6 +1,7 @@
 -- One pass over the subsets: what it needs of its arguments, and what it leaves.
 use Prim.Native.Nat.{ℕ, _-_, _^_, _≤_, _<_, max}
 use mathlib.Core.Path.{_≡_}
+use mathlib.Core.Bool.{false}
 use mathlib.Core.List.{List, _++_}
 use lib.ListN.{length, drop}
 use Rattle.counting.specs.Sample.{countsOf}
@@ -38,9 +39,9 @@ pub record Ready (bit : ℕ → ℕ → ℕ) (n B : ℕ) (layer bits counts rank
   pub space : Space B (length bits) layer counts ranks
   pub run : 0 < length layer → Run bit n B bits counts ranks
 
--- What a pass over n blocks leaves: the winner as the finding, its counts and bin order first in the buffers, and past them what was there.
+-- What a pass over n blocks leaves: the winner as the finding, high bit first, its counts and bin order first in the buffers, and past them what was there.
 pub record Won (bit : ℕ → ℕ → ℕ) (n B k : ℕ) (bins order : List ℕ) (r : Finding) (bins′ order′ : List ℕ) : Type 0 where
-  pub found : r ≡ findingOf bit n B (winnerOf bit n B k)
+  pub found : r ≡ findingOf false bit n B (winnerOf bit n B k)
   pub counted : bins′ ≡ countsOf bit n (winnerOf bit n B k) ++ drop (2 ^ k) bins
   pub ordered : order′ ≡ orderOf (countsOf bit n (winnerOf bit n B k)) ++ drop (2 ^ k) order
 

@@ -1,6 +1,7 @@
 -- What a search promises: its answer, and every entry of the bin and order buffers afterwards.
 use mathlib.Core.Path.{_≡_}
 use Prim.Native.Nat.{ℕ, zero, suc, _^_}
+use mathlib.Core.Bool.{Bool}
 use mathlib.Core.List.{List, _++_}
 use lib.ListN.{length, drop}
 use Rattle.counting.specs.Sample.{countsOf}
@@ -12,10 +13,10 @@ use Rattle.layers.specs.Size.{storeSize}
 use Rattle.searching.specs.Refusal.{directRefusal, layeredRefusal}
 use Rattle.searching.specs.declared.finding.Searched.{Searched}
 
--- the winner of n blocks, or the refusal r where that is not 0
-abbrev pub answerOf : ℕ → (ℕ → ℕ → ℕ) → ℕ → ℕ → ℕ → Searched
-answerOf zero bit n B k = record { refusal = 0; finding = findingOf bit n B (winnerOf bit n B k) }
-answerOf (suc r) bit n B k = refusedWith (suc r)
+-- the winner of n blocks in a bit order, or the refusal r where that is not 0
+abbrev pub answerOf : ℕ → Bool → (ℕ → ℕ → ℕ) → ℕ → ℕ → ℕ → Searched
+answerOf zero low bit n B k = record { refusal = 0; finding = findingOf low bit n B (winnerOf bit n B k) }
+answerOf (suc r) low bit n B k = refusedWith (suc r)
 
 -- the bin buffer afterwards: the winner's counts, and past them as lent; all as lent where refused
 abbrev pub binsAfter : ℕ → (ℕ → ℕ → ℕ) → ℕ → ℕ → ℕ → List ℕ → List ℕ
@@ -27,9 +28,9 @@ abbrev pub orderAfter : ℕ → (ℕ → ℕ → ℕ) → ℕ → ℕ → ℕ �
 orderAfter zero bit n B k order = orderOf (countsOf bit n (winnerOf bit n B k)) ++ drop (2 ^ k) order
 orderAfter (suc r) bit n B k order = order
 
--- A search of n blocks with the refusal r: its answer and the two buffers afterwards, for the sample, the block size, the width and the buffers as lent.
-pub record Search (r : ℕ) (bit : ℕ → ℕ → ℕ) (n B k : ℕ) (bins order : List ℕ) (answer : Searched) (bins′ order′ : List ℕ) : Type 0 where
-  pub answered : answer ≡ answerOf r bit n B k
+-- A search of n blocks with the refusal r: its answer and the two buffers afterwards, for the bit order, the sample, the block size, the width and the buffers as lent.
+pub record Search (r : ℕ) (low : Bool) (bit : ℕ → ℕ → ℕ) (n B k : ℕ) (bins order : List ℕ) (answer : Searched) (bins′ order′ : List ℕ) : Type 0 where
+  pub answered : answer ≡ answerOf r low bit n B k
   pub counted : bins′ ≡ binsAfter r bit n B k bins
   pub ordered : order′ ≡ orderAfter r bit n B k order
 
@@ -37,7 +38,7 @@ pub record Search (r : ℕ) (bit : ℕ → ℕ → ℕ) (n B k : ℕ) (bins orde
 abbrev pub StretchSearch : ℕ → Sampler → List ℕ → ℕ → ℕ → ℕ → List ℕ → List ℕ → Searched → List ℕ → List ℕ → Type 0
 StretchSearch r s ws first end k =
     let x = stretchOf s (length ws) first end in
-    Search r (stretchBit x ws) (span x) (s .«block_size») k
+    Search r (s .«low_first») (stretchBit x ws) (span x) (s .«block_size») k
 
 -- What the direct search promises.
 abbrev pub DirectSearch : Sampler → List ℕ → ℕ → ℕ → ℕ → List ℕ → List ℕ → Searched → List ℕ → List ℕ → Type 0

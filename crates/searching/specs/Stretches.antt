@@ -1,7 +1,7 @@
 -- What the search of a stretch is: from 0 to n, the search of all blocks; else that of a recording which holds its blocks alone.
 use Prim.Native.Nat.{ℕ, _≤_}
 use mathlib.Core.Path.{_≡_}
-use mathlib.Core.Bool.{true}
+use mathlib.Core.Bool.{Bool, true}
 use mathlib.Core.List.{List}
 use lib.ListN.{length}
 use Rattle.counting.specs.Block.{validSize}
@@ -35,25 +35,25 @@ pub record WholeStretch (s : Sampler) (words : ℕ) : Type 0 where
   pub search :
       (ws : List ℕ) (r k : ℕ) (bins order : List ℕ) (answer : Searched) (bins′ order′ : List ℕ)
       → StretchSearch r s ws 0 (blocksOf s) k bins order answer bins′ order′
-      → Search r (sampleOf s ws) (blocksOf s) (s .«block_size») k bins order answer bins′ order′
+      → Search r (s .«low_first») (sampleOf s ws) (blocksOf s) (s .«block_size») k bins order answer bins′ order′
 
 abbrev pub WholeStretches : Type 0
 WholeStretches = (s : Sampler) (words : ℕ) → WholeStretch s words
 
 -- Theorem: after every acquisition the sampler's n is the recording's, and what is best in the stretch from 0 to n is best in the whole recording.
-pub record WholeRecording (B : ℕ) (held : List ℕ) (s : Sampler) : Type 0 where
+pub record WholeRecording (B : ℕ) (low : Bool) (held : List ℕ) (s : Sampler) : Type 0 where
   pub blocks : blocksOf s ≡ blocksIn B held
   pub best :
       (k : ℕ) (f : Finding) (bins order : List ℕ)
-      → BestIn B held 0 (blocksOf s) k f bins order → BestOf B held k f bins order
+      → BestIn B low held 0 (blocksOf s) k f bins order → BestOf B low held k f bins order
 
 abbrev pub WholeRecordings : Type 0
 WholeRecordings =
-    (B : ℕ) (ws : List ℕ) (pieces : List (List ℕ)) (answers : List ℕ) (s : Sampler) (ws′ : List ℕ)
-    → Acquisition B ws pieces answers s ws′ → WholeRecording B (recording B (length ws) pieces) s
+    (B : ℕ) (low : Bool) (ws : List ℕ) (pieces : List (List ℕ)) (answers : List ℕ) (s : Sampler) (ws′ : List ℕ)
+    → Acquisition B low ws pieces answers s ws′ → WholeRecording B low (recording B (length ws) pieces) s
 
 -- Theorem: what is best in a stretch of a recording is best in a recording that holds its blocks alone.
 abbrev pub BestAlone : Type 0
 BestAlone =
-    (B : ℕ) (held : List ℕ) (first end k : ℕ) (f : Finding) (bins order : List ℕ) → validSize B ≡ true → first ≤ end → end ≤ blocksIn B held
-    → BestIn B held first end k f bins order → BestOf B (stretchBytes B held first end) k f bins order
+    (B : ℕ) (low : Bool) (held : List ℕ) (first end k : ℕ) (f : Finding) (bins order : List ℕ) → validSize B ≡ true → first ≤ end → end ≤ blocksIn B held
+    → BestIn B low held first end k f bins order → BestOf B low (stretchBytes B held first end) k f bins order

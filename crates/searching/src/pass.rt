@@ -16,7 +16,7 @@ use counting::stretch::span;
 use ranking::ranking::fill_roots;
 use subsets::stepping::first;
 
-// Finds the best k-subset. Its counts and bin order are left in the buffers, whose entries past 2 ^ k stay.
+// Finds the best k-subset; its bit order is left at high first, since rows have none. Its counts and bin order are left in the buffers, whose entries past 2 ^ k stay.
 // An empty layer means that every bin is counted; else layer k - 1 stands in it. What is left in counts and ranks is free.
 pub fn find(
     words: &[u64],
@@ -103,6 +103,7 @@ fn find_with(
         bits,
         division: ranking.division,
         z: ranking.z,
+        low_first: false,
     }
 }
 

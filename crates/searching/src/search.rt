@@ -5,6 +5,7 @@ ghost use Rattle.searching.specs.Refusal.{widthRefusal, bufferRefusal, s
 ghost use Rattle.searching.specs.Search.{DirectSearch, LayeredSearch};
 use crate::climb::find_layered;
 use crate::finding::Searched;
+use crate::finding::marked;
 use crate::finding::refused;
 use crate::pass::find;
 use counting::sampling::Sampler;
@@ -47,7 +48,7 @@ pub fn brute_force_threads(
     );
     Searched {
         refusal: 0,
-        finding,
+        finding: marked(finding, sampler.low_first),
     }
 }
 
@@ -92,7 +93,7 @@ pub fn brute_force(
     );
     Searched {
         refusal: 0,
-        finding,
+        finding: marked(finding, sampler.low_first),
     }
 }
 

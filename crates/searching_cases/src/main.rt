@@ -13,10 +13,10 @@ fn main() {
 }
 
 // For the whole of standard input.
-fn room() -> [u8; 393216]
-    ensures { λ r. ⌜ 393216 ≡ length r ⌝ }
+fn room() -> [u8; 524288]
+    ensures { λ r. ⌜ 524288 ≡ length r ⌝ }
 {
-    [0; 393216]
+    [0; 524288]
 }
 
 // All cases of a text: the ranks of subsets, the rankings of counts, the searches.

@@ -1,9 +1,9 @@
-// Cases of searches: B and the number of lent words; the number of pieces, for each its length and its bytes; the number of searches, for each the first
-// block and the end of the stretch, k, the lengths of the bin buffer, the order buffer and the two stores, the number of entries of a store that the layered
-// search may use, and 0 for the sampler last returned, or 1 and another sampler's three fields.
-// Answer: a line for start and the feeds; for each search, first direct, then layered, a line with what it answers, one with the first 2 ^ k counts, one with
-// the first 2 ^ k entries of the order, and one with how many other entries of the buffers, and of the stores, are no longer as lent. Where it is refused,
-// all entries are such others.
+// Cases of searches: B, the bit order, 1 where the low bit comes first, and the number of lent words; the number of pieces, for each its length and its bytes;
+// the number of searches, for each the first block and the end of the stretch, k, the lengths of the bin buffer, the order buffer and the two stores, the
+// number of entries of a store that the layered search may use, and 0 for the sampler last returned, or 1 and another sampler's four fields.
+// Answer: a line for start and the feeds; for each search, first direct, then layered, a line with what it answers, the finding's bit order last, one with the
+// first 2 ^ k counts, one with the first 2 ^ k entries of the order, and one with how many other entries of the buffers, and of the stores, are no longer as
+// lent. Where it is refused, all entries are such others.
 ghost use mathlib.Core.Path.{_≡_};
 ghost use lib.ListN.{length};
 use cases::entries::changed;
@@ -55,13 +55,26 @@ pub fn replay(text: &[u8], at: usize) {
 fn replay_one(text: &[u8], at: usize) -> usize {
     let mut words = dirty();
     let size = number(text, at);
-    let lent = number(text, size.at);
+    let order = number(text, size.at);
+    let lent = number(text, order.at);
     let count = at_most(lent.value, 8192);
-    replay_with(text, lent.at, size.value as usize, &mut words[..count])
+    replay_with(
+        text,
+        lent.at,
+        size.value as usize,
+        order.value == 1,
+        &mut words[..count],
+    )
 }
 
-fn replay_with(text: &[u8], at: usize, block_size: usize, words: &mut [u64]) -> usize {
-    let recorded = record(text, at, block_size, words);
+fn replay_with(
+    text: &[u8],
+    at: usize,
+    block_size: usize,
+    low_first: bool,
+    words: &mut [u64],
+) -> usize {
+    let recorded = record(text, at, block_size, low_first, words);
     search_all(text, recorded.at, recorded.sampler, words)
 }
 
@@ -120,13 +133,15 @@ fn given_sampler(text: &[u8], at: usize, returned: Sampler) -> Given {
     let size = number(text, other.at);
     let words = number(text, size.at);
     let taken = number(text, words.at);
+    let order = number(text, taken.at);
     Given {
         sampler: Sampler {
             block_size: size.value as usize,
             words: words.value as usize,
             taken: taken.value as usize,
+            low_first: order.value == 1,
         },
-        at: taken.at,
+        at: order.at,
     }
 }
 
@@ -229,6 +244,7 @@ fn print_searched(searched: Searched) {
     print_first(&bits, 20);
     print(finding.division as u64);
     print_double(finding.z);
+    print(finding.low_first as u64);
     end_line();
 }
 

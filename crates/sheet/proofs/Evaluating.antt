@@ -1,6 +1,6 @@
 -- A finding of a search is never refused by the evaluation, so what is printed is what the evaluation counts.
 use mathlib.Core.Path.{_≡_, refl, ap, subst, _∙_}
-use mathlib.Core.Bool.{true}
+use mathlib.Core.Bool.{true, false}
 use mathlib.Core.List.{List}
 use Prim.Native.Nat.{ℕ, zero, suc, _^_, _≤_}
 use native.Mathlib.Omega.{arith}
@@ -33,7 +33,7 @@ module _ (B k : ℕ) (bytes : List ℕ) (ok : validSize B ≡ true) (some : 1 �
   W = chosenOf B k bytes
 
   abbrev counts : List ℕ
-  counts = countsOf (recordedBit B bytes) (blocksIn B bytes) W
+  counts = countsOf (recordedBit B false bytes) (blocksIn B bytes) W
 
   abbrev f : Finding
   f = trainedOf B k bytes
@@ -43,7 +43,7 @@ module _ (B k : ℕ) (bytes : List ℕ) (ok : validSize B ≡ true) (some : 1 �
 
   pub chosen-subset : Subset B k W
   unfolding chosenOf
-  chosen-subset = winner-optimal (recordedBit B bytes) (blocksIn B bytes) B k fits .subset
+  chosen-subset = winner-optimal (recordedBit B false bytes) (blocksIn B bytes) B k fits .subset
 
   pub width-is : f .width ≡ k
   unfolding trainedOf
@@ -58,7 +58,7 @@ module _ (B k : ℕ) (bytes : List ℕ) (ok : validSize B ≡ true) (some : 1 �
 
   order-length : length order ≡ 2 ^ f .width
   unfolding trainedOrder trainedOf
-  order-length = length-order (recordedBit B bytes) (blocksIn B bytes) W
+  order-length = length-order (recordedBit B false bytes) (blocksIn B bytes) W
 
   width-valid : validWidth (f .width) ≡ true
   unfolding validWidth
@@ -83,7 +83,7 @@ module _ (B k : ℕ) (bytes : List ℕ) (ok : validSize B ≡ true) (some : 1 �
   once : eachOnce (2 ^ f .width) order ≡ true
   unfolding trainedOrder trainedOf
   once =
-      let all : length counts ≡ 2 ^ length W = length-counts (recordedBit B bytes) (blocksIn B bytes) W in
+      let all : length counts ≡ 2 ^ length W = length-counts (recordedBit B false bytes) (blocksIn B bytes) W in
       once-permutes (2 ^ length W) order order-length .1 (subst (λ (m : ℕ). Permuted (listOf m (λ v. v)) (orderOf counts)) all (order-permutes counts))
 
   division-free : divisionRefusal (f .division) (2 ^ f .width) ≡ 0

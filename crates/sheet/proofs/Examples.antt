@@ -1,7 +1,7 @@
 -- The worked examples, computed.
 use mathlib.Core.Path.{refl}
 use lib.Ieee.{lt, mul, sub, div, ofInt, round, add, neg, toBits}
-use Rattle.counting.specs.Block.{validSize, binOf, blockBit}
+use Rattle.counting.specs.Block.{validSize, binOf, placeIn, blockBit}
 use Rattle.counting.specs.Recording.{recordedBit}
 use Rattle.counting.specs.Sample.{countIn, listOf, countsOf, total}
 use Rattle.scoring.specs.Halves.{part}
@@ -25,5 +25,5 @@ use Rattle.sheet.specs.Sheet.{sheetOf}
 use Rattle.sheet.specs.Examples.{SheetExamples}
 
 pub sheet-examples : SheetExamples
-unfolding sheetOf sheetRefusal linesOf judgedOf chosenOf trainedOf trainedOrder threeLines digitOf readTo matchTo wellFormed inputRefusal symbolAt columns fields line positiveOf splitRefusal firstBlocks firstPart secondPart winnerOf validWidth validSize recordedBit blockBit binOf countIn listOf countsOf total part root rootAt isqrt isqrtFrom deviation zOver zScore abs before insertBin sortBins orderOf peak inBinOrder sizeAt scoreOf lt mul sub div ofInt round add neg toBits
+unfolding sheetOf sheetRefusal linesOf judgedOf chosenOf trainedOf trainedOrder threeLines digitOf readTo matchTo wellFormed inputRefusal symbolAt columns fields line positiveOf splitRefusal firstBlocks firstPart secondPart winnerOf validWidth validSize recordedBit placeIn blockBit binOf countIn listOf countsOf total part root rootAt isqrt isqrtFrom deviation zOver zScore abs before insertBin sortBins orderOf peak inBinOrder sizeAt scoreOf lt mul sub div ofInt round add neg toBits
 sheet-examples = record { eight = refl; narrow = refl; one = refl; none = refl }

@@ -64,12 +64,12 @@ not-T : (b : Bool) → (T b → ⊥) → T (not b)
 not-T true h = absurd (h tt)
 not-T false h = tt
 
-module _ (B : ℕ) (held : List ℕ) (k : ℕ) (f : Finding) (bins order : List ℕ) (best : BestOf B held k f bins order) where
+module _ (B : ℕ) (held : List ℕ) (k : ℕ) (f : Finding) (bins order : List ℕ) (best : BestOf B false held k f bins order) where
   abbrev n : ℕ
   n = blocksIn B held
 
   abbrev bit : ℕ → ℕ → ℕ
-  bit = recordedBit B held
+  bit = recordedBit B false held
 
   abbrev s : List ℕ
   s = take k (f .bits)
@@ -111,24 +111,24 @@ module _ (B : ℕ) (held : List ℕ) (k : ℕ) (f : Finding) (bins order : List 
       let division : f .division ≡ scoreOf n (length W) (countsOf bit n W) .division = best .division ∙ ap (λ (r : Ranking). r .division) score in
       let z : f .z ≡ scoreOf n (length W) (countsOf bit n W) .z = best .z ∙ ap (λ (r : Ranking). r .z) score in
       record {
-        found = λ i. record { «block_size» = best .block i; width = width i; bits = bits i; division = division i; z = z i };
+        found = λ i. record { «block_size» = best .block i; width = width i; bits = bits i; division = division i; z = z i; «low_first» = best .bitOrder i };
         ordered = best .ordered ∙ ap orderOf (best .counted ∙ ap (countsOf bit n) chosen-is);
       }
 
 -- ---- an acquisition of one feed, and a search after it
 
-pub started-free : (B words : ℕ) → validSize B ≡ true → startedOf B words .refusal ≡ 0
+pub started-free : (B words : ℕ) → validSize B ≡ true → startedOf B false words .refusal ≡ 0
 unfolding startedOf
 started-free B words ok = rw ok
 
 pub training-found : TrainingFound
 training-found B k ws bytes answers sampler ws′ acquired size bins order t r bins′ order′ search =
-    let claim = claims B ws (bytes ∷ []) answers sampler ws′ acquired .direct 0 (blocksOf sampler) k bins order r bins′ order′ search in
-    let whole = whole-recordings B ws (bytes ∷ []) answers sampler ws′ acquired in
+    let claim = claims B false ws (bytes ∷ []) answers sampler ws′ acquired .direct 0 (blocksOf sampler) k bins order r bins′ order′ search in
+    let whole = whole-recordings B false ws (bytes ∷ []) answers sampler ws′ acquired in
     let v = valid-facts B (t .valid) in
     let high : k ≤ 20 = omega arith in
     let chosen : k ≤ B = omega arith in
     let free : r .refusal ≡ 0 = claim .succeeds zero-le (omega (arith, whole .blocks)) (t .some, high, chosen, t .room .0, t .room .1) in
     let held : recording B (length ws) (bytes ∷ []) ≡ bytes =
     ap (λ (m : ℕ). recording B m (bytes ∷ [])) size ∙ training-fits B bytes (t .valid) (t .block) (t .few) in
-    (free, trained B bytes k (r .finding) bins′ order′ (subst (λ (h : List ℕ). BestOf B h k (r .finding) bins′ order′) held (whole .best k (r .finding) bins′ order′ (claim .best free))))
+    (free, trained B bytes k (r .finding) bins′ order′ (subst (λ (h : List ℕ). BestOf B false h k (r .finding) bins′ order′) held (whole .best k (r .finding) bins′ order′ (claim .best free))))

@@ -1,6 +1,6 @@
 -- The search of the training bytes.
 use mathlib.Core.Path.{_≡_}
-use mathlib.Core.Bool.{true}
+use mathlib.Core.Bool.{true, false}
 use mathlib.Core.List.{List, [], _∷_}
 use Prim.Native.Nat.{ℕ, _^_, _≤_}
 use lib.ListN.{length, take}
@@ -16,17 +16,17 @@ use Rattle.searching.specs.Search.{DirectSearch}
 use Rattle.searching.specs.declared.finding.Finding.{Finding}
 use Rattle.searching.specs.declared.finding.Searched.{Searched}
 
--- the best k-subset of the recording that holds the bytes
+-- the best k-subset of the recording that holds the bytes, high bit first
 unfoldable pub chosenOf : ℕ → ℕ → List ℕ → List ℕ
-chosenOf B k bytes = winnerOf (recordedBit B bytes) (blocksIn B bytes) B k
+chosenOf B k bytes = winnerOf (recordedBit B false bytes) (blocksIn B bytes) B k
 
 -- .. as a finding
 unfoldable pub trainedOf : ℕ → ℕ → List ℕ → Finding
-trainedOf B k bytes = findingOf (recordedBit B bytes) (blocksIn B bytes) B (chosenOf B k bytes)
+trainedOf B k bytes = findingOf false (recordedBit B false bytes) (blocksIn B bytes) B (chosenOf B k bytes)
 
 -- .. and its bin order
 unfoldable pub trainedOrder : ℕ → ℕ → List ℕ → List ℕ
-trainedOrder B k bytes = orderOf (countsOf (recordedBit B bytes) (blocksIn B bytes) (chosenOf B k bytes))
+trainedOrder B k bytes = orderOf (countsOf (recordedBit B false bytes) (blocksIn B bytes) (chosenOf B k bytes))
 
 -- what can be searched in the words that the program has, with buffers of `bins` and `order` entries
 pub record Trainable (B k : ℕ) (bytes : List ℕ) (bins order : ℕ) : Type 0 where
@@ -49,6 +49,6 @@ TrainingFits = (B : ℕ) (bytes : List ℕ) → validSize B ≡ true → B ≤ 6
 -- Theorem: after a start in these words and a feed of the bytes, the direct search of all blocks is not refused, and what it finds is that.
 abbrev pub TrainingFound : Type 0
 TrainingFound =
-    (B k : ℕ) (ws bytes answers : List ℕ) (sampler : Sampler) (ws′ : List ℕ) → Acquisition B ws (bytes ∷ []) answers sampler ws′
+    (B k : ℕ) (ws bytes answers : List ℕ) (sampler : Sampler) (ws′ : List ℕ) → Acquisition B false ws (bytes ∷ []) answers sampler ws′
     → length ws ≡ 576 → (bins order : List ℕ) → Trainable B k bytes (length bins) (length order)
     → (r : Searched) (bins′ order′ : List ℕ) → DirectSearch sampler ws′ 0 (blocksOf sampler) k bins order r bins′ order′ → (r .refusal ≡ 0) × Trained B k bytes (r .finding) order′

@@ -8,7 +8,7 @@ use counting::sampling::start;
 use searching::finding::Finding;
 use searching::search::brute_force_threads;
 
-// The best subset of the training bytes, by the direct search; its bin order stands in the first 2 ^ k entries of the order buffer afterwards.
+// The best subset of the training bytes, high bit first, by the direct search; its bin order stands in the first 2 ^ k entries of the order buffer afterwards.
 // The other entries of the order buffer, and the bin buffer, are free.
 pub fn train(
     block_size: usize,
@@ -21,7 +21,7 @@ pub fn train(
     ensures { λ r. ⌜ Trained «block_size» k (now (training .entry)) r (now (order .exit)) ⌝ }
 {
     let mut words = room();
-    let started = start(block_size, &mut words);
+    let started = start(block_size, false, &mut words);
     let fed = feed(started.sampler, &mut words, training);
     let n = blocks(fed.sampler);
     let searched = brute_force_threads(fed.sampler, &words, 0, n, k, bins, order);

@@ -85,11 +85,11 @@ pub fn held(block_size: usize, words: usize, pieces: &[Vec<u8>]) -> Vec<u8> {
     held
 }
 
-/// The case: B, the number of lent words, the number of pieces, and each piece. The answer: start's refusal, which is 1 where B is no multiple of 8 from
-/// 8 to 4,096; for each feed its refusal and the bytes held after it.
-/// A refused feed adds nothing. Returns the bytes held in the end.
-pub fn write_recording(sheet: &mut Sheet, block_size: usize, words: usize, pieces: &[Vec<u8>]) -> Vec<u8> {
-    sheet.case([block_size, words]);
+/// The case: B, the bit order, the number of lent words, the number of pieces, and each piece. The answer: start's refusal, which is 1 where B is no multiple
+/// of 8 from 8 to 4,096; for each feed its refusal and the bytes held after it; the order of the last sampler, which is 0 after a refused start.
+/// A refused feed adds nothing. Returns the bytes held in the end, as they were fed.
+pub fn write_recording(sheet: &mut Sheet, block_size: usize, low_first: bool, words: usize, pieces: &[Vec<u8>]) -> Vec<u8> {
+    sheet.case([block_size, low_first as usize, words]);
     sheet.case([pieces.len()]);
     let mut held = Vec::new();
     let mut line = vec![if valid(block_size) { 0 } else { 1 }];
@@ -101,6 +101,7 @@ pub fn write_recording(sheet: &mut Sheet, block_size: usize, words: usize, piece
         }
         line.extend([refusal, held.len()]);
     }
+    line.push((valid(block_size) && low_first) as usize);
     sheet.answer(line);
     held
 }

@@ -6,24 +6,31 @@
 
 mod draws;
 mod feeding;
+pub mod order;
 mod rules;
 pub mod run;
 mod sheet;
 
 pub use draws::Draws;
 pub use feeding::{capacity_bytes, cut, held, pieces, recording, valid, write_recording, CHUNK_ENDS, SHORT_CHUNK_ENDS};
+pub use order::{high_first, reversed};
 pub use rules::Rules;
 pub use sheet::Sheet;
 
 pub use autotest::public::configurations;
 pub use bottomup::public::{
     better, bottomup, brute_force, brute_force_threads, choose, compute_index, first_zero_bit, from_bins, from_json,
-    keys, multi_eval_neg, negate, to_json, to_json_in_report, to_json_pretty, validate, Histogram,
+    keys, low_first, multi_eval_neg, negate, to_json, to_json_in_report, to_json_pretty, validate, Histogram,
 };
 pub use common::public::{
     arguments, bit_value_in_block, bits_block_eval, multi_eval, transform_data, whole_blocks, z_score,
 };
 pub use results::public::evaluate_histogram;
+
+/// A text of the reference with the member behind its own that it does not know.
+pub fn with_low_first(text: &str, low_first: bool) -> String {
+    format!("{},\"low_first\":{low_first}}}", text.strip_suffix('}').unwrap())
+}
 
 /// `Data` of the reference: a row of 128-wide words for each bit of a block.
 pub struct Rows(common::Data);
@@ -132,6 +139,16 @@ mod bottomup {
         pub fn keys(text: &[u8]) -> Option<Vec<String>> {
             let members: std::collections::BTreeMap<String, serde::de::IgnoredAny> = serde_json::from_slice(text).ok()?;
             Some(members.into_keys().collect())
+        }
+
+        /// The value of the key low_first by serde, false where there is none; serde's words where it is neither true nor false, or stands there twice.
+        pub fn low_first(text: &[u8]) -> Result<bool, String> {
+            #[derive(serde::Deserialize)]
+            struct Low {
+                #[serde(default)]
+                low_first: bool,
+            }
+            serde_json::from_slice(text).map(|low: Low| low.low_first).map_err(|e| e.to_string())
         }
 
         /// A `Histogram` to be written and read many times.

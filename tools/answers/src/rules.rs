@@ -18,13 +18,13 @@ impl Rules {
         Rules { child, cases, answers }
     }
 
-    /// The three lines of a reading: the refusal and the finding's 24 numbers; the order of so many entries, each 99 before; the scratch, too.
+    /// The three lines of a reading: the refusal and the finding's 25 numbers; the order of so many entries, each 99 before; the scratch, too.
     pub fn read(&mut self, text: &[u8], order: usize, scratch: usize) -> [Vec<u64>; 3] {
         self.ask(format!("read {} {order} {scratch}", list(text)))
     }
 
     /// The three lines of a writing: the refusal and the length; the output of so many bytes, each 99 before; the scratch, too.
-    pub fn write(&mut self, finding: &[u64; 24], order: &[u32], scratch: usize, out: usize) -> [Vec<u64>; 3] {
+    pub fn write(&mut self, finding: &[u64; 25], order: &[u32], scratch: usize, out: usize) -> [Vec<u64>; 3] {
         self.ask(format!("write {} {} {scratch} {out}", list(finding), list(order)))
     }
 

@@ -1,25 +1,28 @@
 -- `jimrawel_blocks` meets its contract.
-use mathlib.Core.Path.{sym, ap, _∙_}
-use mathlib.Core.Bool.{Bool, cond}
-use Prim.Native.Nat.{_≤_}
-use native.Mathlib.Omega.{arith}
-use lib.ListN.{length}
+use mathlib.Core.Path.{_≡_, sym, ap, _∙_}
 use borrow.Author.Needs.{needs}
-use borrow.Author.Tests.{le-leb, lt-leb}
+use borrow.Author.Tests.{eq-eqb, ne-eqb}
 use Rattle.counting.specs.Sampling.{blocksOf}
-use Rattle.exports.specs.Records.{samplerOf}
+use Rattle.exports.specs.Records.{samplerUnread}
 use Rattle.exports.specs.Calls.{blocksCall}
+use Rattle.exports.proofs.Calling.{sampler-room}
 use Rattle.exports.proofs.jimrawel_blocks.Statement.{statement}
 use Rattle.exports.proofs.jimrawel_blocks.Tie as tie
+
+sampler-unread-requires : tie.Need-sampler-unread-requires
+sampler-unread-requires c κs = search needs
 
 returns : tie.Need-returns
 unfolding blocksCall
 returns c =
-    let l = c .before .before .args .sampler .now in
-    sym (ap (λ (t : Bool). cond t (blocksOf (samplerOf l)) 0) (lt-leb 3 (length l) (c .if1 .taken)))
+    let u = c .before .sampler-unread .ensures in
+    simp (ne-eqb _ _ (λ z. c .if1 .taken (u ∙ z)))
+
+none : (e : tie.Else1) → samplerUnread (e .before .before .before .args .sampler .now) ≡ 0
+none e = sym (e .before .sampler-unread .ensures) ∙ e .if1 .left
 
 read-sampler-requires : tie.Need-read-sampler-requires
-read-sampler-requires c κs = search needs
+read-sampler-requires c κs = sampler-room _ (none c)
 
 blocks-requires : tie.Need-blocks-requires
 blocks-requires c κs = search needs
@@ -28,9 +31,7 @@ returns-2 : tie.Need-returns-2
 unfolding blocksCall
 returns-2 c =
     let e = c .before .before in
-    let l = e .before .before .args .sampler .now in
-    let long : 3 ≤ length l = omega (arith, e .if1 .left) in
-    c .blocks2 .ensures ∙ ap blocksOf (c .before .read-sampler .ensures) ∙ sym (ap (λ (t : Bool). cond t (blocksOf (samplerOf l)) 0) (le-leb 3 (length l) long))
+    simp (eq-eqb _ _ (none e)) (c .blocks2 .ensures ∙ ap blocksOf (c .before .read-sampler .ensures))
 
 pub jimrawel-blocks-spec : {M : Type 1} → statement M
-jimrawel-blocks-spec = tie.close (tie.spec returns read-sampler-requires blocks-requires returns-2)
+jimrawel-blocks-spec = tie.close (tie.spec sampler-unread-requires returns read-sampler-requires blocks-requires returns-2)

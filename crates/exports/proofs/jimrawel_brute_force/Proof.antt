@@ -1,28 +1,35 @@
 -- `jimrawel_brute_force` meets its contract: what the layered search promised of the sampler read, and its finding written.
-use mathlib.Core.Logic.{inl, inr}
-use Rattle.exports.proofs.Calling.{layered-made, layered-short}
+use mathlib.Core.Path.{_≡_, sym, _∙_}
+use lib.ListN.{length}
+use Rattle.exports.specs.Records.{searchUnread}
+use Rattle.exports.proofs.Calling.{search-room, layered-made, layered-unread}
 use borrow.Author.Needs.{needs}
 use Rattle.exports.proofs.jimrawel_brute_force.Statement.{statement}
 use Rattle.exports.proofs.jimrawel_brute_force.Tie as tie
 
+search-unread-requires : tie.Need-search-unread-requires
+search-unread-requires c κs = search needs
+
+abbrev start : tie.After-search-unread → tie.Start
+start u = u .before .before .before .before .before .before .before .before
+
 returns : tie.Need-returns
 returns c =
-    let a = c .before .before .before .before .before .before .before .before .args in
-    layered-short (a .sampler .now) (a .words .now) (a .first) (a .end) (a .k) (a .lower .now) (a .upper .now) (a .bins .now) (a .order .now) (a .finding .now) (inl (c .if1 .taken))
+    let u = c .before in
+    let a = start u .args in
+    layered-unread (a .sampler .now) (a .words .now) (a .first) (a .end) (a .k) (a .lower .now) (a .upper .now) (a .bins .now) (a .order .now) (a .finding .now) (u .search-unread .result) (u .search-unread .ensures) (c .if1 .taken)
 
-returns-2 : tie.Need-returns-2
-returns-2 c =
-    let a = c .before .before .before .before .before .before .before .before .before .args in
-    layered-short (a .sampler .now) (a .words .now) (a .first) (a .end) (a .k) (a .lower .now) (a .upper .now) (a .bins .now) (a .order .now) (a .finding .now) (inr (c .if2 .taken))
+none : (e : tie.Else1) → let a = start (e .before) .args in searchUnread (a .sampler .now) (length (a .finding .now)) ≡ 0
+none e = sym (e .before .search-unread .ensures) ∙ e .if1 .left
 
 read-sampler-requires : tie.Need-read-sampler-requires
-read-sampler-requires c κs = search needs
+read-sampler-requires c κs = search-room _ _ (none c) .1
 
 brute-force-requires : tie.Need-brute-force-requires
 brute-force-requires c κs = search needs
 
 write-finding-requires : tie.Need-write-finding-requires
-write-finding-requires c κs = search needs
+write-finding-requires c κs = search-room _ _ (none (c .before .before .before .before .before .before .before .before .before .before .before .before .before .before .before)) .0
 
 same-length : tie.Need-same-length
 same-length c = search needs
@@ -39,23 +46,23 @@ same-length-4 c = search needs
 same-length-5 : tie.Need-same-length-5
 same-length-5 c = search needs
 
-returns-3 : tie.Need-returns-3
-returns-3 c =
+returns-2 : tie.Need-returns-2
+returns-2 c =
     let w = c .before .before in
     let f = w .before .before .before .before .before .before .before .before .before .before in
     let r = f .before .before .before .before .before in
     let e = r .before in
-    let a = e .before .before .before .before .before .before .before .before .before .args in
+    let a = start (e .before) .args in
     layered-made (a .sampler .now) (a .words .now) (a .first) (a .end) (a .k) (a .lower .now) (a .upper .now) (a .bins .now) (a .order .now) (a .finding .now)
     (r .read-sampler .result) (f .brute-force .result) _ _ _ _ (w .write-finding .last .1 .0)
-    (e .before .if1 .left) (e .if2 .left) (r .read-sampler .ensures) (f .brute-force .ensures) (w .write-finding .ensures)
+    (none e) (r .read-sampler .ensures) (f .brute-force .ensures) (w .write-finding .ensures)
 
 pub jimrawel-brute-force-spec : {M : Type 1} → statement M
 jimrawel-brute-force-spec =
     tie.close
     (tie.spec
+    search-unread-requires
     returns
-    returns-2
     read-sampler-requires
     brute-force-requires
     write-finding-requires
@@ -64,4 +71,4 @@ jimrawel-brute-force-spec =
     same-length-3
     same-length-4
     same-length-5
-    returns-3)
+    returns-2)

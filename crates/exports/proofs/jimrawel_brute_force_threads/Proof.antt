@@ -1,28 +1,35 @@
 -- `jimrawel_brute_force_threads` meets its contract: what the direct search promised of the sampler read, and its finding written.
-use mathlib.Core.Logic.{inl, inr}
-use Rattle.exports.proofs.Calling.{direct-made, direct-short}
+use mathlib.Core.Path.{_≡_, sym, _∙_}
+use lib.ListN.{length}
+use Rattle.exports.specs.Records.{searchUnread}
+use Rattle.exports.proofs.Calling.{search-room, direct-made, direct-unread}
 use borrow.Author.Needs.{needs}
 use Rattle.exports.proofs.jimrawel_brute_force_threads.Statement.{statement}
 use Rattle.exports.proofs.jimrawel_brute_force_threads.Tie as tie
 
+search-unread-requires : tie.Need-search-unread-requires
+search-unread-requires c κs = search needs
+
+abbrev start : tie.After-search-unread → tie.Start
+start u = u .before .before .before .before .before .before
+
 returns : tie.Need-returns
 returns c =
-    let a = c .before .before .before .before .before .before .args in
-    direct-short (a .sampler .now) (a .words .now) (a .first) (a .end) (a .k) (a .bins .now) (a .order .now) (a .finding .now) (inl (c .if1 .taken))
+    let u = c .before in
+    let a = start u .args in
+    direct-unread (a .sampler .now) (a .words .now) (a .first) (a .end) (a .k) (a .bins .now) (a .order .now) (a .finding .now) (u .search-unread .result) (u .search-unread .ensures) (c .if1 .taken)
 
-returns-2 : tie.Need-returns-2
-returns-2 c =
-    let a = c .before .before .before .before .before .before .before .args in
-    direct-short (a .sampler .now) (a .words .now) (a .first) (a .end) (a .k) (a .bins .now) (a .order .now) (a .finding .now) (inr (c .if2 .taken))
+none : (e : tie.Else1) → let a = start (e .before) .args in searchUnread (a .sampler .now) (length (a .finding .now)) ≡ 0
+none e = sym (e .before .search-unread .ensures) ∙ e .if1 .left
 
 read-sampler-requires : tie.Need-read-sampler-requires
-read-sampler-requires c κs = search needs
+read-sampler-requires c κs = search-room _ _ (none c) .1
 
 brute-force-threads-requires : tie.Need-brute-force-threads-requires
 brute-force-threads-requires c κs = search needs
 
 write-finding-requires : tie.Need-write-finding-requires
-write-finding-requires c κs = search needs
+write-finding-requires c κs = search-room _ _ (none (c .before .before .before .before .before .before .before .before .before)) .0
 
 same-length : tie.Need-same-length
 same-length c = search needs
@@ -33,27 +40,27 @@ same-length-2 c = search needs
 same-length-3 : tie.Need-same-length-3
 same-length-3 c = search needs
 
-returns-3 : tie.Need-returns-3
-returns-3 c =
+returns-2 : tie.Need-returns-2
+returns-2 c =
     let w = c .before .before in
     let f = w .before .before .before .before .before .before in
     let r = f .before .before .before in
     let e = r .before in
-    let a = e .before .before .before .before .before .before .before .args in
+    let a = start (e .before) .args in
     direct-made (a .sampler .now) (a .words .now) (a .first) (a .end) (a .k) (a .bins .now) (a .order .now) (a .finding .now)
     (r .read-sampler .result) (f .brute-force-threads .result) _ _ (w .write-finding .last .1 .0)
-    (e .before .if1 .left) (e .if2 .left) (r .read-sampler .ensures) (f .brute-force-threads .ensures) (w .write-finding .ensures)
+    (none e) (r .read-sampler .ensures) (f .brute-force-threads .ensures) (w .write-finding .ensures)
 
 pub jimrawel-brute-force-threads-spec : {M : Type 1} → statement M
 jimrawel-brute-force-threads-spec =
     tie.close
     (tie.spec
+    search-unread-requires
     returns
-    returns-2
     read-sampler-requires
     brute-force-threads-requires
     write-finding-requires
     same-length
     same-length-2
     same-length-3
-    returns-3)
+    returns-2)

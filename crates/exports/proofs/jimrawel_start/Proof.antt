@@ -7,7 +7,7 @@ use Rattle.exports.proofs.jimrawel_start.Tie as tie
 returns : tie.Need-returns
 returns c =
     let a = c .before .before .before .args in
-    start-short (a .block-size) (a .words .now) (a .sampler .now) (c .if1 .taken)
+    start-short (a .block-size) (a .low-first) (a .words .now) (a .sampler .now) (c .if1 .taken)
 
 start-requires : tie.Need-start-requires
 start-requires c κs = search needs
@@ -27,7 +27,7 @@ returns-2 c =
     let s = w .before .before .before .before in
     let e = s .before .before in
     let a = e .before .before .before .args in
-    start-made (a .block-size) (a .words .now) (a .sampler .now) (s .start .result) (s .start .last .1 .0) (w .write-sampler .last .1 .0)
+    start-made (a .block-size) (a .low-first) (a .words .now) (a .sampler .now) (s .start .result) (s .start .last .1 .1 .0) (w .write-sampler .last .1 .0)
     (e .if1 .left) (s .start .ensures .0) (s .start .ensures .1) (w .write-sampler .ensures)
 
 pub jimrawel-start-spec : {M : Type 1} → statement M

@@ -1,11 +1,13 @@
 //! Cases for `crates/counting_cases`: single blocks, and samplers fed a recording in pieces.
 
+use answers::order::{both, by_turns, high_first, turned};
 use answers::*;
 
 const SIZES: [usize; 5] = [8, 16, 24, 64, 128];
 const COUNTS: [usize; 8] = [0, 1, 63, 64, 65, 127, 128, 129];
 
 /// A sampler's case: the call of start, the pieces fed, the subsets counted.
+#[derive(Clone)]
 struct Case {
     block_size: usize,
     words: usize,
@@ -14,6 +16,7 @@ struct Case {
 }
 
 /// The stretch of blocks counted, all whole ones where there is none, and the bits.
+#[derive(Clone)]
 struct Subset {
     stretch: Option<(usize, usize)>,
     bits: Vec<usize>,
@@ -38,20 +41,21 @@ fn main() {
     sheet.note("Counts: its multi_eval_neg for every bin, on transform_data and negate of the blocks of the stretch alone, and its multi_eval. 99999999 alone where");
     sheet.note("the stretch ends before it begins, or after the blocks that the rows hold.");
     sheet.note("Refusals and bytes held: the rules of start and feed, in a dozen lines of that tool, since the reference takes a recording whole.");
-    sheet.note("Single blocks. Each: the number of bytes and the bytes; the number of bits and the bits.");
+    sheet.note(&order::note("recordings of 4,095 to 8,193 blocks by turns, and the last ones as they are drawn"));
+    sheet.note("Single blocks. Each: the bit order; the number of bytes and the bytes; the number of bits and the bits.");
     block_cases(&mut sheet, &mut draws);
-    let mut cases = edge_cases(&mut draws);
-    cases.extend(counted_cases(&mut draws));
-    cases.extend(long_cases(&mut draws));
-    cases.extend(stretch_cases(&mut draws));
-    cases.push(chunk_case(&mut draws));
-    cases.extend(run::sample().filter_map(case_of_run));
-    sheet.note("Samplers. Each: B and the number of lent words; the number of pieces, and for each its length and its bytes;");
+    let mut cases = both(edge_cases(&mut draws));
+    cases.extend(both(counted_cases(&mut draws)));
+    cases.extend(by_turns(long_cases(&mut draws)));
+    cases.extend(both(stretch_cases(&mut draws)));
+    cases.extend(turned(vec![chunk_case(&mut draws)], mirror));
+    cases.extend(run::sample().filter_map(short).map(case_of_run));
+    sheet.note("Samplers. Each: B, the bit order and the number of lent words; the number of pieces, and for each its length and its bytes;");
     sheet.note("where B is valid, the number of subsets, and for each the first block and the end of a stretch, its width and its bits.");
     sheet.note(&run::note());
     sheet.case([cases.len()]);
-    for case in &cases {
-        write_case(&mut sheet, case);
+    for (case, low_first) in &cases {
+        write_case(&mut sheet, case, *low_first);
     }
     sheet.save();
 }
@@ -71,12 +75,15 @@ fn block_cases(sheet: &mut Sheet, draws: &mut Draws) {
     cases.push((draws.bytes(3), (4..24).collect()));
     cases.push((draws.bytes(512), draws.subset(4096, 20)));
     cases.push((vec![0xFF; 512], (4076..4096).collect()));
+    let cases = both(cases);
     sheet.case([cases.len()]);
-    for (block, bits) in &cases {
+    for ((block, bits), low_first) in &cases {
+        sheet.case([*low_first as usize]);
         sheet.list(block);
         sheet.list(bits);
-        let values = bits.iter().map(|bit| bit_value_in_block(*bit, block) as usize);
-        sheet.answer(values.chain([bits_block_eval(bits, block)]));
+        let block = high_first(block, *low_first);
+        let values = bits.iter().map(|bit| bit_value_in_block(*bit, &block) as usize);
+        sheet.answer(values.chain([bits_block_eval(bits, &block)]));
     }
 }
 
@@ -172,21 +179,30 @@ fn chunk_case(draws: &mut Draws) -> Case {
     Case { block_size: 8, words: 8 * 516 + 3, pieces, subsets: in_stretches(&stretches, &[&[4], &[5, 7], &[4, 5, 6, 7]]) }
 }
 
-/// A short recording of the differential run, and the subset that the reference finds in it, counted over all blocks and over the drawn stretch where that is
-/// another of its blocks.
-fn case_of_run(case: run::Case) -> Option<Case> {
-    let run::Case::Recording(drawn) = case else { return None };
-    if drawn.bytes() > 200 || drawn.block_size > 128 || !drawn.searchable() || drawn.k > 8 {
-        return None;
+/// The same bits of each byte by their numbers in the other bit order: of the chunks' digits the high half of a byte is zeros.
+fn mirror(case: &mut Case) {
+    for bit in case.subsets.iter_mut().flat_map(|subset| &mut subset.bits) {
+        *bit = *bit / 8 * 8 + 7 - *bit % 8;
     }
+}
+
+/// A short recording of the differential run.
+fn short(case: run::Case) -> Option<run::Recording> {
+    let run::Case::Recording(drawn) = case else { return None };
+    (drawn.bytes() <= 200 && drawn.block_size <= 128 && drawn.searchable() && drawn.k <= 8).then_some(drawn)
+}
+
+/// The subset that the reference finds in it, counted over all blocks and over the drawn stretch where that is another of its blocks.
+fn case_of_run(drawn: run::Recording) -> (Case, bool) {
     let another = drawn.within() && drawn.stretch != (0..drawn.blocks());
-    let run::Recording { block_size, words, pieces, stretch, k, .. } = drawn;
-    let bits = bottomup(&held(block_size, words, &pieces), block_size, k, 1).unwrap().bits;
+    let run::Recording { block_size, words, pieces, stretch, k, low_first, .. } = drawn;
+    let held = held(block_size, words, &pieces);
+    let bits = bottomup(&high_first(&held, low_first), block_size, k, 1).unwrap().bits;
     let mut subsets = whole(vec![bits.clone()]);
     if another {
         subsets.push(Subset { stretch: Some((stretch.start, stretch.end)), bits });
     }
-    Some(Case { block_size, words, pieces, subsets })
+    (Case { block_size, words, pieces, subsets }, low_first)
 }
 
 fn subsets(draws: &mut Draws, block_size: usize) -> Vec<Subset> {
@@ -202,8 +218,8 @@ fn subsets(draws: &mut Draws, block_size: usize) -> Vec<Subset> {
     whole(subsets)
 }
 
-fn write_case(sheet: &mut Sheet, case: &Case) {
-    let held = write_recording(sheet, case.block_size, case.words, &case.pieces);
+fn write_case(sheet: &mut Sheet, case: &Case, low_first: bool) {
+    let held = write_recording(sheet, case.block_size, low_first, case.words, &case.pieces);
     if !valid(case.block_size) {
         return;
     }
@@ -213,7 +229,7 @@ fn write_case(sheet: &mut Sheet, case: &Case) {
         let (first, end) = stretch.unwrap_or((0, n));
         sheet.case([first, end, bits.len()].iter().chain(bits));
     }
-    answer_counts(sheet, case, &held);
+    answer_counts(sheet, case, &high_first(&held, low_first));
 }
 
 fn answer_counts(sheet: &mut Sheet, case: &Case, held: &[u8]) {

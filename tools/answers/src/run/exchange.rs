@@ -1,13 +1,13 @@
 //! Findings as text: sound ones to be written and read both ways; texts in any shape, sound and damaged; unsound findings to be written.
 
-use super::Judged;
-use crate::{to_json, Draws, Finding};
+use super::{bit_orders, start_of, Judged};
+use crate::{to_json, with_low_first, Draws, Finding};
 
 /// One case of any kind. Rooms are how many entries more than enough a buffer has; below 0 it is too short.
 #[derive(Clone, Debug)]
 pub enum Exchange {
-    /// A finding that is sound.
-    Sound(Finding),
+    /// A finding that is sound, in a bit order.
+    Sound { finding: Finding, low_first: bool },
     /// A text, with the entries of the order and of the scratch.
     Text { text: Vec<u8>, order: usize, scratch: usize },
     /// A finding that is sound or not, with its z and what stands in the bit entries past the width, and the room of the output.
@@ -16,15 +16,16 @@ pub enum Exchange {
 
 impl Exchange {
     pub fn of_run(seed: u64, number: u64) -> Exchange {
-        let draws = &mut Draws::new(seed.wrapping_add(number.wrapping_mul(0xA076_1D64_78BD_642F)));
+        let start = start_of(seed, number);
+        let (draws, orders) = (&mut Draws::new(start), &mut bit_orders(start));
         match draws.below(10) {
             0..=1 => {
                 let width = if draws.below(20) == 0 { 1 + draws.below(12) } else { 1 + draws.below(6) };
-                Exchange::Sound(sound(draws, width))
+                Exchange::Sound { finding: sound(draws, width), low_first: orders.below(2) == 1 }
             }
-            2..=8 => text(draws),
+            2..=8 => text(draws, orders),
             _ => Exchange::Written {
-                judged: Judged::draw(draws),
+                judged: Judged::draw(draws).in_bit_order(orders),
                 z: [0, 1 << 63, u64::MAX, 1][draws.below(4)],
                 past: [0, 1, u32::MAX][draws.below(3)],
                 out: [0, 0, 1, -1, 10, isize::MIN / 2][draws.below(6)],
@@ -103,8 +104,20 @@ fn key(draws: &mut Draws, name: &str) -> String {
     format!("\"{}\\u{:04x}{}\"", &name[..at], name.as_bytes()[at], &name[at + 1..])
 }
 
-/// The text of a finding in any shape, now and then damaged, in buffers that are now and then too short.
-fn text(draws: &mut Draws) -> Exchange {
+/// Values of low_first, one of eight neither true nor false.
+fn truth(draws: &mut Draws) -> String {
+    let others = ["1", "0", "null", "\"true\"", "[true]", "{}", "1e999", "True", "tru", "truefalse", "false0", "-true", ""];
+    if draws.below(8) == 0 { pick(draws, &others) } else { pick(draws, &["true", "false"]) }
+}
+
+/// A member with white space around its tokens.
+fn member(draws: &mut Draws, name: &str, value: &str) -> String {
+    [space(draws), key(draws, name), space(draws), ":".into(), space(draws), value.into(), space(draws)].concat()
+}
+
+/// The text of a finding in any shape, now and then damaged, in buffers that are now and then too short. What it says of the bit order, mostly once, comes from
+/// other draws.
+fn text(draws: &mut Draws, orders: &mut Draws) -> Exchange {
     let found = spoilt(draws);
     let mut members = vec![
         ("bits", list(draws, &found.bits)),
@@ -129,10 +142,11 @@ fn text(draws: &mut Draws) -> Exchange {
         }
         _ => (),
     }
-    let members: Vec<String> = members
-        .iter()
-        .map(|(name, value)| [space(draws), key(draws, name), space(draws), ":".into(), space(draws), value.clone(), space(draws)].concat())
-        .collect();
+    let mut members: Vec<String> = members.iter().map(|(name, value)| member(draws, name, value)).collect();
+    for _ in 0..[0, 0, 0, 1, 1, 1, 1, 1, 1, 1, 1, 2][orders.below(12)] {
+        let value = truth(orders);
+        members.insert(orders.below(members.len() + 1), member(orders, "low_first", &value));
+    }
     let mut text = [space(draws), "{".into(), members.join(","), "}".into(), space(draws)].concat().into_bytes();
     if draws.below(40) == 0 {
         let (bits, order) = (list(draws, &found.bits), list(draws, &found.order));
@@ -140,7 +154,8 @@ fn text(draws: &mut Draws) -> Exchange {
         text = format!("[{bits},{order},{},{z}{}]", found.division, found.block_size).into_bytes();
     }
     if draws.below(10) == 0 {
-        text = to_json(&found).into_bytes();
+        let there = to_json(&found);
+        text = [there.clone(), with_low_first(&there, false), with_low_first(&there, true)][orders.below(3)].clone().into_bytes();
     }
     while draws.below(3) == 0 {
         damage(draws, &mut text);

@@ -1,5 +1,6 @@
 //! Findings to be checked and evaluated, sound and unsound ones; splits; sweep plans.
 
+use super::no_bit_order;
 use crate::{recording, Draws};
 
 /// A finding's numbers but z, its order, the data, and how many entries more than enough the scratch has: -1 is one too few.
@@ -13,6 +14,10 @@ pub struct Judged {
     pub order: Vec<u32>,
     pub bytes: Vec<u8>,
     pub scratch: isize,
+    /// Whether the finding's bit order has the low bit first.
+    pub low_first: bool,
+    /// A number that stands for no bit order, in its place.
+    pub mark: Option<u64>,
 }
 
 impl Judged {
@@ -37,11 +42,23 @@ impl Judged {
             order: draws.shuffled(m).into_iter().map(|bin| bin as u32).collect(),
             bytes,
             scratch: draws.below(3) as isize,
+            low_first: false,
+            mark: None,
         };
         while draws.below(3) == 0 {
             judged.spoil(draws);
         }
         judged
+    }
+
+    /// The same in a drawn bit order, half of them low first; one of a hundred has none.
+    pub fn in_bit_order(self, draws: &mut Draws) -> Judged {
+        Judged { low_first: draws.below(2) == 1, mark: no_bit_order(draws), ..self }
+    }
+
+    /// The number of the bit order in the record.
+    pub fn bit_order(&self) -> u64 {
+        self.mark.unwrap_or(self.low_first as u64)
     }
 
     /// One thing made unsound, or nearly.

@@ -25,13 +25,14 @@ pub enum Case {
 
 impl Case {
     /// A case of the run with a seed, drawn from the seed and its number alone. One of a thousand is a long recording. The stretch that is searched has
-    /// draws of its own, on which nothing else of a case depends.
+    /// draws of its own, on which nothing else of a case depends, and so has the bit order.
     pub fn of_run(seed: u64, number: u64) -> Case {
         let start = start_of(seed, number);
         let draws = &mut Draws::new(start);
         let case = if number % 1000 == 999 { Case::Recording(Recording::long(draws)) } else { Case::draw(draws) };
         match case {
-            Case::Recording(drawn) => Case::Recording(drawn.whole_or_part(&mut Draws::new(!start))),
+            Case::Recording(drawn) => Case::Recording(drawn.whole_or_part(&mut Draws::new(!start)).in_bit_order(&mut bit_orders(start))),
+            Case::Judged(drawn) => Case::Judged(drawn.in_bit_order(&mut bit_orders(start))),
             other => other,
         }
     }
@@ -51,6 +52,16 @@ impl Case {
 /// Where the draws of a case begin.
 pub fn start_of(seed: u64, number: u64) -> u64 {
     seed.wrapping_add(number.wrapping_mul(0xA076_1D64_78BD_642F))
+}
+
+/// The draws of a case's bit order, apart from those that begin at its start.
+pub fn bit_orders(start: u64) -> Draws {
+    Draws::new(start ^ 0x6C6F_775F_6669_7273)
+}
+
+/// A number of a record that stands for no bit order, for one of a hundred.
+fn no_bit_order(draws: &mut Draws) -> Option<u64> {
+    (draws.below(100) == 0).then(|| [2, 3, 256, 1 << 32, (1 << 32) + 1, u64::MAX][draws.below(6)])
 }
 
 /// The run that is sampled, and how many of its cases: those that are short are stored.

@@ -1,5 +1,6 @@
 //! Recordings fed in pieces, with a search after them.
 
+use super::no_bit_order;
 use crate::{capacity_bytes, choose, cut, recording, Draws};
 use std::ops::Range;
 
@@ -17,6 +18,10 @@ pub struct Recording {
     pub order: isize,
     pub stores: [isize; 2],
     pub stale: bool,
+    /// Whether the low bit comes first.
+    pub low_first: bool,
+    /// A number that stands for no bit order, in the sampler after the feeds.
+    pub mark: Option<u64>,
 }
 
 impl Recording {
@@ -50,6 +55,8 @@ impl Recording {
             order: slack(draws),
             stores: [slack(draws), slack(draws)],
             stale: draws.below(300) == 0,
+            low_first: false,
+            mark: None,
         }
     }
 
@@ -64,7 +71,8 @@ impl Recording {
         let words = block_size * (blocks + 1).div_ceil(64);
         let pieces = cut(draws, &held, 3);
         let pieces = between(draws, pieces, capacity_bytes(block_size, words));
-        Recording { block_size, words, pieces, stretch: 0..blocks, k: 1 + draws.below(3), bins: 0, order: 0, stores: [0, 1], stale: false }
+        let k = 1 + draws.below(3);
+        Recording { block_size, words, pieces, stretch: 0..blocks, k, bins: 0, order: 0, stores: [0, 1], stale: false, low_first: false, mark: None }
     }
 
     /// One of few values or of a short period, so that scores tie, about a word's end long, or, one of thirty each, a chunk's or a short chunk's.
@@ -87,7 +95,8 @@ impl Recording {
         let pieces = between(draws, pieces, capacity_bytes(block_size, words));
         let k = if draws.below(100) == 0 { [0, block_size + 1, 21][draws.below(3)] } else { 1 + draws.below(widest) };
         let (bins, order, stores) = (slack(draws), slack(draws), [slack(draws), slack(draws)]);
-        Recording { block_size, words, pieces, stretch: 0..blocks, k, bins, order, stores, stale: draws.below(300) == 0 }
+        let stale = draws.below(300) == 0;
+        Recording { block_size, words, pieces, stretch: 0..blocks, k, bins, order, stores, stale, low_first: false, mark: None }
     }
 
     /// The same, searched whole or, as often, in a drawn stretch.
@@ -98,6 +107,11 @@ impl Recording {
     /// The same with a drawn stretch.
     pub fn in_part(&self, draws: &mut Draws) -> Recording {
         Recording { stretch: part(draws, self.blocks()), ..self.clone() }
+    }
+
+    /// The same in a drawn bit order, half of them low first; one of a hundred has none.
+    pub fn in_bit_order(self, draws: &mut Draws) -> Recording {
+        Recording { low_first: draws.below(2) == 1, mark: no_bit_order(draws), ..self }
     }
 
     /// The bytes of the pieces that are not refused.

@@ -38,8 +38,8 @@ put-bytes-requires c κs =
     let v = valid-facts _ (ok .usable .valid) in
     (omega arith, (room-words _ _ v, omega (arith, ok .room, room-bytes (s .sampler .«block_size») (length (s .words .now)))))
 
-add-t13 : tie.Need-add-t13
-add-t13 c =
+add-t14 : tie.Need-add-t14
+add-t14 c =
     let at-else = c .before .before .before .before in
     let ok = taken-in at-else in
     let s = at-else .before .before .before .before .args in
@@ -65,6 +65,6 @@ feed-spec =
     returns
     div-put-bytes
     put-bytes-requires
-    add-t13
+    add-t14
     same-length
     returns-2)

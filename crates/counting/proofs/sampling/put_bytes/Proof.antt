@@ -12,18 +12,18 @@ use Rattle.counting.proofs.sampling.put_bytes.Statement.{statement}
 use Rattle.counting.proofs.sampling.put_bytes.Tie as tie
 
 abbrev Inv-loop : tie.InvT-loop
-Inv-loop words₀ size stride taken piece place₀ n₀ words place n =
-    (n ≤ length piece) × (words ≡ putBytes size stride words₀ taken piece n) × (length words ≡ length words₀)
+Inv-loop words₀ size stride taken piece low place₀ n₀ words place n =
+    (n ≤ length piece) × (words ≡ putBytes low size stride words₀ taken piece n) × (length words ≡ length words₀)
     × (place .block * size + place .byte ≡ taken + n) × (place .byte < size)
 
 abbrev μ-loop : tie.MeasureT-loop
-μ-loop words₀ size stride taken piece place₀ n₀ words place n = length piece - n
+μ-loop words₀ size stride taken piece low place₀ n₀ words place n = length piece - n
 
-div-t9 : tie.Need-div-t9 Inv-loop μ-loop
-div-t9 c = search needs
+div-t10 : tie.Need-div-t10 Inv-loop μ-loop
+div-t10 c = search needs
 
-rem-t10 : tie.Need-rem-t10 Inv-loop μ-loop
-rem-t10 c = search needs
+rem-t11 : tie.Need-rem-t11 Inv-loop μ-loop
+rem-t11 c = search needs
 
 loop-holds : tie.Need-loop-holds Inv-loop μ-loop
 unfolding putBytes
@@ -93,8 +93,8 @@ loop-again c =
     let next = c .next-place .ensures in (
       omega arith,
       p .put-byte .ensures
-          ∙ (λ i. putBits (a .stride) (l .loop .inv .1 i) (8 * byte-is l i * a .stride + block-is l i / 64) (block-is l i % 64) (getD (a .piece .now) n 0) 8)
-          ∙ sym (putBytes-next (a .size) (a .stride) (a .words .now) (a .taken) (a .piece .now) n),
+          ∙ (λ i. putBits (a .low-first) (a .stride) (l .loop .inv .1 i) (8 * byte-is l i * a .stride + block-is l i / 64) (block-is l i % 64) (getD (a .piece .now) n 0) 8)
+          ∙ sym (putBytes-next (a .low-first) (a .size) (a .stride) (a .words .now) (a .taken) (a .piece .now) n),
       p .put-byte .kept .0 ∙ l .loop .inv .2,
       omega (arith, next .0, l .loop .inv .3),
       next .1,
@@ -108,7 +108,7 @@ returns c =
     let l = c .before in
     let a = start l .args in
     let past : l .loop .n ≡ length (a .piece .now) = omega arith in
-    l .loop .inv .1 ∙ ap (putBytes (a .size) (a .stride) (a .words .now) (a .taken) (a .piece .now)) past
+    l .loop .inv .1 ∙ ap (putBytes (a .low-first) (a .size) (a .stride) (a .words .now) (a .taken) (a .piece .now)) past
 
 pub put-bytes-spec : {M : Type 1} → statement M
 put-bytes-spec =
@@ -116,8 +116,8 @@ put-bytes-spec =
     (tie.spec
     Inv-loop
     μ-loop
-    div-t9
-    rem-t10
+    div-t10
+    rem-t11
     loop-holds
     mul-put-byte
     mul-put-byte-2

@@ -7,10 +7,10 @@ use Rattle.counting_cases.proofs.blocks.print_values.Statement.{stateme
 use Rattle.counting_cases.proofs.blocks.print_values.Tie as tie
 
 abbrev Inv-loop : tie.InvT-loop
-Inv-loop bits block i₀ i = i ≤ length bits
+Inv-loop bits low-first block i₀ i = i ≤ length bits
 
 abbrev μ-loop : tie.MeasureT-loop
-μ-loop bits block i₀ i = length bits - i
+μ-loop bits low-first block i₀ i = length bits - i
 
 loop-holds : tie.Need-loop-holds Inv-loop μ-loop
 loop-holds c = search needs

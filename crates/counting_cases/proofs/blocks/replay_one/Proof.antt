@@ -8,6 +8,9 @@ use Rattle.counting_cases.proofs.blocks.replay_one.Tie as tie
 number-requires : tie.Need-number-requires
 number-requires c κs = search needs
 
+number-requires-2 : tie.Need-number-requires-2
+number-requires-2 c κs = search needs
+
 at-most-requires : tie.Need-at-most-requires
 at-most-requires c κs = search needs
 
@@ -28,6 +31,7 @@ replay-one-spec =
     tie.close
     (tie.spec
     number-requires
+    number-requires-2
     at-most-requires
     array-borrow-prefix-block
     slice-aggregate-replay-block

@@ -14,6 +14,9 @@ number-requires c κs = search needs
 number-requires-2 : tie.Need-number-requires-2
 number-requires-2 c κs = search needs
 
+number-requires-3 : tie.Need-number-requires-3
+number-requires-3 c κs = search needs
+
 at-most-requires : tie.Need-at-most-requires
 at-most-requires c κs = search needs
 
@@ -39,6 +42,7 @@ replay-one-spec =
     dirty-requires
     number-requires
     number-requires-2
+    number-requires-3
     at-most-requires
     at-most-requires-2
     array-borrow-prefix-words

@@ -40,7 +40,7 @@ returns-2 c =
 
 returns-3 : tie.Need-returns-3
 returns-3 c =
-    let e = c .before .before .before in
+    let e = c .before .before .before .before in
     let y = e .before .before in
     let x = y .before .before .before .before in
     let ok : y .read-array .result .ok ≡ true = not-false _ (e .if2 .left) in

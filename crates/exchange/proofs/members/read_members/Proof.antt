@@ -61,7 +61,7 @@ loop-holds c =
     let s = x .args .s .now in
     let f = c .nothing-found .result in
     let n = c .nothing-found .ensures in
-    (search needs, nothing-sized s f (n .0) (n .1), (λ i. membersFrom (sym (nothing-held s f (n .0) (n .1) (n .2) (n .3) (n .4)) i) (drop (x .args .at) s)))
+    (search needs, nothing-sized s f (n .0) (n .1), (λ i. membersFrom (sym (nothing-held s f (n .0) (n .1) (n .2) (n .3) (n .4) (n .5)) i) (drop (x .args .at) s)))
 
 read-member-requires : tie.Need-read-member-requires Inv-loop μ-loop
 read-member-requires c κs = (c .loop .inv .0, c .loop .inv .1)

@@ -40,7 +40,7 @@ returns-2 c =
 
 returns-3 : tie.Need-returns-3
 returns-3 c =
-    let e = c .before .before .before .before in
+    let e = c .before .before .before .before .before in
     let y = e .before .before in
     let x = y .before .before .before in
     let kept = place-got (bytes x) _ (y .skip-score .result) (y .skip-score .ensures) (not-false _ (e .if2 .left)) in

@@ -30,6 +30,12 @@ read-block-requires c κs = search needs
 enum-told-5 : tie.Need-enum-told-5
 enum-told-5 c = search needs
 
+read-low-requires : tie.Need-read-low-requires
+read-low-requires c κs = search needs
+
+enum-told-6 : tie.Need-enum-told-6
+enum-told-6 c = search needs
+
 read-score-requires : tie.Need-read-score-requires
 read-score-requires c κs = search needs
 
@@ -46,7 +52,10 @@ returns-4 : tie.Need-returns-4
 returns-4 c = rw (c .before .enum-told4 .given .1) (c .read-block .ensures)
 
 returns-5 : tie.Need-returns-5
-returns-5 c = rw (c .before .enum-told5 .given .1) (c .read-score .ensures)
+returns-5 c = rw (c .before .enum-told5 .given .1) (c .read-low .ensures)
+
+returns-6 : tie.Need-returns-6
+returns-6 c = rw (c .before .enum-told6 .given .1) (c .read-score .ensures)
 
 pub read-value-spec : {M : Type 1} → statement M
 read-value-spec =
@@ -61,9 +70,12 @@ read-value-spec =
     enum-told-4
     read-block-requires
     enum-told-5
+    read-low-requires
+    enum-told-6
     read-score-requires
     returns
     returns-2
     returns-3
     returns-4
-    returns-5)
+    returns-5
+    returns-6)

@@ -59,7 +59,7 @@ returns-2 : tie.Need-returns-2
 returns-2 c =
     let k = c .before .before .before .args .k in
     let w = width (c .before) in
-    ap (λ (m : ℕ). 63 + 5 * k + (m + 1) * (2 + 3 * k / 10)) (c .bin-count .ensures) ∙ sym (longest-is k (w .0) (w .1))
+    ap (λ (m : ℕ). 81 + 5 * k + (m + 1) * (2 + 3 * k / 10)) (c .bin-count .ensures) ∙ sym (longest-is k (w .0) (w .1))
 
 pub longest-text-spec : {M : Type 1} → statement M
 longest-text-spec =

@@ -20,12 +20,12 @@ fits s = omega (arith, size s, s .pre .0 .width)
 
 -- both parts have room
 room : (s : tie.Start) → let f = s .args .finding in
-    length (arraysText (chosen f) (s .args .order .now)) + length (numbersText (f .division) (f .«block_size»)) ≤ length (s .args .out .now)
+    length (arraysText (chosen f) (s .args .order .now)) + length (numbersText (f .division) (f .«block_size») (f .«low_first»)) ≤ length (s .args .out .now)
 room s =
     let f = s .args .finding in
     let e = exchangedOf f (s .args .order .now) in
-    let parts : length (findingText f (s .args .order .now)) ≡ length (arraysText (chosen f) (s .args .order .now)) + length (numbersText (f .division) (f .«block_size»)) =
-    ap length (text-pieces e) ∙ length-append (arraysText (chosen f) (s .args .order .now)) (numbersText (f .division) (f .«block_size»)) in
+    let parts : length (findingText f (s .args .order .now)) ≡ length (arraysText (chosen f) (s .args .order .now)) + length (numbersText (f .division) (f .«block_size») (f .«low_first»)) =
+    ap length (text-pieces e) ∙ length-append (arraysText (chosen f) (s .args .order .now)) (numbersText (f .division) (f .«block_size») (f .«low_first»)) in
     omega (arith, parts, s .pre .1)
 
 array-share-prefix-bits : tie.Need-array-share-prefix-bits

@@ -1,4 +1,4 @@
--- `writer::text_length` meets its contract: 62 fixed bytes, and the numbers.
+-- `writer::text_length` meets its contract: 75 fixed bytes, the numbers, and true or false.
 use borrow.Author.Needs.{needs}
 use Prim.Native.Nat.{_≤_}
 use mathlib.Core.Path.{_≡_, sym}
@@ -10,7 +10,7 @@ use Rattle.exchange.specs.Exchange.{exchangedOf}
 use Rattle.exchange.proofs.Figures.{digits-ten}
 use Rattle.exchange.proofs.Commas.{listed-ten}
 use Rattle.exchange.proofs.Acceptance.{bins-most}
-use Rattle.exchange.proofs.Pieces.{length-text}
+use Rattle.exchange.proofs.Pieces.{length-text, truth-most}
 use Rattle.exchange.proofs.writer.text_length.Statement.{statement}
 use Rattle.exchange.proofs.writer.text_length.Tie as tie
 
@@ -77,13 +77,25 @@ add-result-3 c =
     let n = numbers (c .before .before .before) in
     omega (arith, bits (c .before), indices c, n .0, n .1)
 
+truth-length-requires : tie.Need-truth-length-requires
+truth-length-requires c κs = search needs
+
+add-result-4 : tie.Need-add-result-4
+add-result-4 c =
+    let i = c .before in
+    let d = i .before .before .before in
+    let n = numbers d in
+    let low = d .before .before .before .before .before .args .finding .«low_first» in
+    omega (arith, bits (i .before), indices i, n .0, n .1, c .truth-length .ensures, truth-most low)
+
 returns : tie.Need-returns
 returns c =
-    let l = c .before in
+    let i = c .before in
+    let l = i .before in
     let d = l .before .before in
     let s = d .before .before .before .before .before in
     omega
-    (arith, length-text (exchangedOf (s .args .finding) (s .args .order .now)), c .listed-length2 .ensures, l .listed-length .ensures, d .digits2 .ensures, d .before .before .digits .ensures)
+    (arith, length-text (exchangedOf (s .args .finding) (s .args .order .now)), i .listed-length2 .ensures, l .listed-length .ensures, d .digits2 .ensures, d .before .before .digits .ensures, c .truth-length .ensures)
 
 pub text-length-spec : {M : Type 1} → statement M
 text-length-spec =
@@ -100,4 +112,6 @@ text-length-spec =
     listed-length-requires-2
     add-result-2
     add-result-3
+    truth-length-requires
+    add-result-4
     returns)

@@ -2,6 +2,7 @@
 use mathlib.Core.Path.{_≡_, refl, sym, ap, subst, _∙_}
 use mathlib.Core.Bool.{false}
 use native.Mathlib.Omega.{arith}
+use lib.Dec.{eqb}
 use lib.Ieee.{fin, binary64, ofBits}
 use lib.IntN.{pos}
 use lib.ListN.{length, getD}
@@ -50,9 +51,13 @@ shared-slice-read-narrow c = search needs
 narrow-requires : tie.Need-narrow-requires
 narrow-requires c κs = search needs
 
+shared-slice-read-t16 : tie.Need-shared-slice-read-t16
+shared-slice-read-t16 c = search needs
+
 returns : tie.Need-returns
 returns c =
-    let b = c .before .before .before in
+    let n = c .before in
+    let b = n .before .before .before in
     let s = start (b .before .before) in
     let l = s .args .numbers .now in
     let bits = b .read-bits .ensures ∙ ap padded (part-is l (getD l 1 0)) ∙ bits-read l (s .pre .width) in
@@ -60,8 +65,9 @@ returns c =
       «block_size» = getD l 0 0;
       width = getD l 1 0;
       bits = bits i;
-      division = c .narrow .ensures i;
+      division = n .narrow .ensures i;
       z = no-score i;
+      «low_first» = eqb (getD l 24 0) 1;
     }
 
 pub read-finding-spec : {M : Type 1} → statement M
@@ -77,4 +83,5 @@ read-finding-spec =
     shared-slice-read-t5
     shared-slice-read-narrow
     narrow-requires
+    shared-slice-read-t16
     returns)

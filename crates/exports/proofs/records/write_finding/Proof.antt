@@ -1,11 +1,11 @@
--- `records::write_finding` meets its contract: four stores, and the bits after them.
-use mathlib.Core.Path.{_≡_, ap, _∙_}
+-- `records::write_finding` meets its contract: four stores, the bits after them, and the bit order after these.
+use mathlib.Core.Path.{_≡_, sym, ap, _∙_}
 use native.Mathlib.Omega.{arith}
-use Prim.Native.Nat.{ℕ, _≤_}
-use mathlib.Core.List.{_∷_}
-use lib.ListN.{length, length-set}
+use Prim.Native.Nat.{ℕ, _≤_, _<_}
+use mathlib.Core.List.{List, [], _∷_, _++_}
+use lib.ListN.{length, set, length-set}
 use Rattle.exports.specs.Records.{written}
-use Rattle.exports.proofs.Writing.{four}
+use Rattle.exports.proofs.Writing.{four, one-more}
 use borrow.Author.Needs.{needs}
 use Rattle.exports.proofs.records.write_finding.Statement.{statement}
 use Rattle.exports.proofs.records.write_finding.Tie as tie
@@ -43,20 +43,36 @@ write-bits-requires c κs =
     let bits : length (s .args .finding .bits) ≡ 20 = size s in
     simp length-set (omega (arith, s .pre))
 
+order-number-requires : tie.Need-order-number-requires
+order-number-requires c κs = search needs
+
+-- the numbers and the bits are as many as before
+kept : (w : tie.After-write-bits) → length (w .write-bits .last .1 .0) ≡ length (start (w .before) .args .numbers .now)
+kept w = w .write-bits .kept .1 .0 ∙ simp length-set
+
+slice-write-numbers-5 : tie.Need-slice-write-numbers-5
+slice-write-numbers-5 c =
+    let w = c .before .before .before in
+    omega (arith, kept w, start (w .before) .pre)
+
 same-length : tie.Need-same-length
-same-length c =
-    let w = c .before .before in
-    w .write-bits .kept .1 .0 ∙ simp length-set
+same-length c = simp length-set (kept (c .before .before .before))
 
 returns : tie.Need-returns
 returns c =
-    let w = c .before .before in
+    let w = c .before .before .before in
     let s = start (w .before) in
     let f = s .args .finding in
-    let long : 4 ≤ length (s .args .numbers .now) = omega (arith, s .pre) in
-    w .write-bits .ensures
-    ∙ four (s .args .numbers .now) (f .bits) (f .«block_size») (f .width) (f .division) (w .before .before .before .before .pattern .result) long
-    ∙ ap (λ (z : ℕ). written (f .«block_size» ∷ f .width ∷ f .division ∷ z ∷ f .bits) (s .args .numbers .now)) (w .before .before .before .before .pattern .ensures)
+    let l = s .args .numbers .now in
+    let long : 4 ≤ length l = omega (arith, s .pre) in
+    let first : List ℕ = f .«block_size» ∷ f .width ∷ f .division ∷ w .before .before .before .before .pattern .result ∷ f .bits in
+    let size : length first ≡ 24 = omega (arith, size s) in
+    let room : length first < length l = omega (arith, s .pre) in
+    ap (λ (t : List ℕ). set t 24 (c .order-number .result))
+    (w .write-bits .ensures ∙ four l (f .bits) (f .«block_size») (f .width) (f .division) (w .before .before .before .before .pattern .result) long)
+    ∙ ap (λ (n : ℕ). set (written first l) n (c .order-number .result)) (sym size)
+    ∙ one-more first l (c .order-number .result) room
+    ∙ (λ i. written (f .«block_size» ∷ f .width ∷ f .division ∷ w .before .before .before .before .pattern .ensures i ∷ (f .bits ++ (c .order-number .ensures i ∷ []))) l)
 
 pub write-finding-spec : {M : Type 1} → statement M
 write-finding-spec =
@@ -70,5 +86,7 @@ write-finding-spec =
     slice-write-numbers-4
     slice-aggregate-write-bits
     write-bits-requires
+    order-number-requires
+    slice-write-numbers-5
     same-length
     returns)

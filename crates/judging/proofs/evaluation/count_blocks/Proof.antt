@@ -13,11 +13,11 @@ use Rattle.judging.proofs.evaluation.count_blocks.Statement.{statement}
 use Rattle.judging.proofs.evaluation.count_blocks.Tie as tie
 
 abbrev Inv-loop : tie.InvT-loop
-Inv-loop bits block-size bytes bins₀ size n e₀ bins e =
-    (e ≤ n) × (bins ≡ countsOf (recordedBit block-size bytes) e bits)
+Inv-loop bits block-size low-first bytes bins₀ size n e₀ bins e =
+    (e ≤ n) × (bins ≡ countsOf (recordedBit block-size low-first bytes) e bits)
 
 abbrev μ-loop : tie.MeasureT-loop
-μ-loop bits block-size bytes bins₀ size n e₀ bins e = n - e
+μ-loop bits block-size low-first bytes bins₀ size n e₀ bins e = n - e
 
 abbrev at-start : tie.After-slice-known Inv-loop μ-loop → tie.Start Inv-loop μ-loop
 at-start c = c .before .before .before
@@ -31,7 +31,7 @@ div-n c = omega (arith, sized (at-start c))
 loop-holds : tie.Need-loop-holds Inv-loop μ-loop
 loop-holds c =
     let s = at-start c in
-    (zero-le, s .pre .1 ∙ counts-none (recordedBit (s .args .block-size) (s .args .bytes .now)) (s .args .bits .now))
+    (zero-le, s .pre .1 ∙ counts-none (recordedBit (s .args .block-size) (s .args .low-first) (s .args .bytes .now)) (s .args .bits .now))
 
 -- the block of a turn lies within the bytes
 inside : (d : tie.In-loop Inv-loop μ-loop) → let a = at-start (d .before .before) .args in
@@ -82,7 +82,7 @@ mul-bins c = search needs
 
 -- the bins are those of the bits
 bins-length : (l : tie.At-loop Inv-loop μ-loop) → length (l .loop .bins) ≡ 2 ^ length (at-start (l .before) .args .bits .now)
-bins-length l = let a = at-start (l .before) .args in ap length (l .loop .inv .1) ∙ length-counts (recordedBit (a .block-size) (a .bytes .now)) (l .loop .e) (a .bits .now)
+bins-length l = let a = at-start (l .before) .args in ap length (l .loop .inv .1) ∙ length-counts (recordedBit (a .block-size) (a .low-first) (a .bytes .now)) (l .loop .e) (a .bits .now)
 
 slice-read-bins : tie.Need-slice-read-bins Inv-loop μ-loop
 slice-read-bins c = omega (arith, bin (c .before), bins-length (c .before .before .before .before))
@@ -94,7 +94,7 @@ add-bins c =
     let s = at-start (l .before) in
     let a = s .args in
     let few : blocksIn (a .block-size) (a .bytes .now) ≤ 16777216 = s .pre .0 .blocks in
-    let small = counts-small (recordedBit (a .block-size) (a .bytes .now)) (l .loop .e) (a .bits .now) (l .loop .bins) (f .bits-block-eval .result) (l .loop .inv .1) (bin f) in
+    let small = counts-small (recordedBit (a .block-size) (a .low-first) (a .bytes .now)) (l .loop .e) (a .bits .now) (l .loop .bins) (f .bits-block-eval .result) (l .loop .inv .1) (bin f) in
     omega (arith, small, few, l .loop .inv .0)
 
 slice-write-bins : tie.Need-slice-write-bins Inv-loop μ-loop
@@ -112,9 +112,9 @@ loop-again c =
     let d = f .before .before in
     let l = d .before in
     let a = at-start (l .before) .args in
-    let is = f .bits-block-eval .ensures .0 ∙ block-bin (a .block-size) (l .loop .e) (a .bits .now) (a .bytes .now) in (
+    let is = f .bits-block-eval .ensures .0 ∙ block-bin (a .block-size) (a .low-first) (l .loop .e) (a .bits .now) (a .bytes .now) in (
       omega (arith, d .loop-test .taken),
-      counts-more (recordedBit (a .block-size) (a .bytes .now)) (l .loop .e) (a .bits .now) (l .loop .bins) (f .bits-block-eval .result) _ (l .loop .inv .1) is (bin f) refl,
+      counts-more (recordedBit (a .block-size) (a .low-first) (a .bytes .now)) (l .loop .e) (a .bits .now) (l .loop .bins) (f .bits-block-eval .result) _ (l .loop .inv .1) is (bin f) refl,
     )
 
 same-length : tie.Need-same-length Inv-loop μ-loop
@@ -128,7 +128,7 @@ returns c =
     let l = c .before in
     let a = at-start (l .before) .args in
     let past : l .loop .e ≡ blocksIn (a .block-size) (a .bytes .now) = omega (arith, c .loop-test .left, l .loop .inv .0) in
-    l .loop .inv .1 ∙ ap (λ (n : ℕ). countsOf (recordedBit (a .block-size) (a .bytes .now)) n (a .bits .now)) past
+    l .loop .inv .1 ∙ ap (λ (n : ℕ). countsOf (recordedBit (a .block-size) (a .low-first) (a .bytes .now)) n (a .bits .now)) past
 
 pub count-blocks-spec : {M : Type 1} → statement M
 count-blocks-spec =

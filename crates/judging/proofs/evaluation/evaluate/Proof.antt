@@ -43,11 +43,11 @@ sum-first-requires c κs =
     let d = c .before .before .before .before in
     let s = start d in
     let f = s .args .finding in
-    let bit = recordedBit (f .«block_size») (s .args .bytes .now) in
+    let bit = recordedBit (f .«block_size») (f .«low_first») (s .args .bytes .now) in
     let n = testingBlocks f (s .args .bytes .now) in
     let is = d .count-blocks .ensures in
     let long = ap length is ∙ length-counts bit n (chosen f) ∙ ap (λ (k : ℕ). 2 ^ k) (s .pre .1 .1 .0) in
-    let sum = ap total is ∙ counts-add-up n bit (recorded-small (f .«block_size») (s .args .bytes .now)) (chosen f) in
+    let sum = ap total is ∙ counts-add-up n bit (recorded-small (f .«block_size») (f .«low_first») (s .args .bytes .now)) (chosen f) in
     (subst (λ (m : ℕ). Permutation m (s .args .order .now)) (sym long) (s .pre .1 .1 .1), (s .pre .1 .1 .2, omega (arith, sum, s .pre .0 .blocks)))
 
 same-length : tie.Need-same-length

@@ -51,14 +51,42 @@ returns-4 c =
     let w = widths d in
     simp (eq-eqb _ _ (sizes w .if1 .left), eq-eqb _ _ (w .if2 .left), eq-eqb _ _ (d .if3 .left), bits-same (c .before) ∙ not-true _ (c .if4 .taken))
 
+-- the bits are the same where they were found to be
+abbrev bits-found : tie.After-alike → tie.Else4
+bits-found c = c .before
+
+alike-requires : tie.Need-alike-requires
+alike-requires c κs = search needs
+
 returns-5 : tie.Need-returns-5
 unfolding sameFinding
 returns-5 c =
-    let e = c .before .before in
+    let e = bits-found (c .before) in
     let d = divisions (e .before) in
     let w = widths d in
-    simp (eq-eqb _ _ (sizes w .if1 .left), eq-eqb _ _ (w .if2 .left), eq-eqb _ _ (d .if3 .left), bits-same (e .before) ∙ not-false _ (e .if4 .left))
+    simp (
+      eq-eqb _ _ (sizes w .if1 .left),
+      eq-eqb _ _ (w .if2 .left),
+      eq-eqb _ _ (d .if3 .left),
+      bits-same (e .before) ∙ not-false _ (e .if4 .left),
+      sym (c .before .alike .ensures) ∙ not-true _ (c .if5 .taken),
+    )
+
+returns-6 : tie.Need-returns-6
+unfolding sameFinding
+returns-6 c =
+    let o = c .before .before in
+    let e = bits-found (o .before) in
+    let d = divisions (e .before) in
+    let w = widths d in
+    simp (
+      eq-eqb _ _ (sizes w .if1 .left),
+      eq-eqb _ _ (w .if2 .left),
+      eq-eqb _ _ (d .if3 .left),
+      bits-same (e .before) ∙ not-false _ (e .if4 .left),
+      sym (o .before .alike .ensures) ∙ not-false _ (o .if5 .left),
+    )
 
 pub same-finding-spec : {M : Type 1} → statement M
 same-finding-spec =
-    tie.close (tie.spec returns returns-2 returns-3 compared-requires same-bits-requires returns-4 returns-5)
+    tie.close (tie.spec returns returns-2 returns-3 compared-requires same-bits-requires returns-4 alike-requires returns-5 returns-6)

@@ -28,21 +28,21 @@ free e =
 
 -- the state after start and all feeds
 arrived : (f : tie.After-feed-pieces) → let a = entry (f .before .before .before .before .before .before) .args in
-    stateOf (f .feed-pieces .result .sampler) (f .feed-pieces .last .1 .0) ≡ stateAfter (a .block-size) (a .words .now) (cut (a .recording .now) (a .lengths .now))
+    stateOf (f .feed-pieces .result .sampler) (f .feed-pieces .last .1 .0) ≡ stateAfter (a .block-size) (a .low-first) (a .words .now) (cut (a .recording .now) (a .lengths .now))
 arrived f =
     let a = entry (f .before .before .before .before .before .before) .args in
     let s = f .before .before .before .before .start in
-    state-is (a .block-size) (a .words .now) (cut (a .recording .now) (a .lengths .now)) (s .result) (s .last .1 .0) (f .feed-pieces .result) (f .feed-pieces .last .1 .0)
+    state-is (a .block-size) (a .low-first) (a .words .now) (cut (a .recording .now) (a .lengths .now)) (s .result) (s .last .1 .1 .0) (f .feed-pieces .result) (f .feed-pieces .last .1 .0)
     (s .ensures .0) (s .ensures .1) (f .feed-pieces .ensures)
 
 -- .. and how many feeds were refused
 counted : (f : tie.After-feed-pieces) → let a = entry (f .before .before .before .before .before .before) .args in
-    f .feed-pieces .result .refused ≡ refusedIn (answersFrom (started (a .block-size) (a .words .now)) (cut (a .recording .now) (a .lengths .now)))
+    f .feed-pieces .result .refused ≡ refusedIn (answersFrom (started (a .block-size) (a .low-first) (a .words .now)) (cut (a .recording .now) (a .lengths .now)))
 counted f =
     let a = entry (f .before .before .before .before .before .before) .args in
     let s = f .before .before .before .before .start in
     f .feed-pieces .ensures .refused
-    ∙ ap (λ (q : State). refusedIn (answersFrom q (cut (a .recording .now) (a .lengths .now)))) (fresh-is (a .block-size) (a .words .now) (s .result) (s .last .1 .0) (s .ensures .0) (s .ensures .1))
+    ∙ ap (λ (q : State). refusedIn (answersFrom q (cut (a .recording .now) (a .lengths .now)))) (fresh-is (a .block-size) (a .low-first) (a .words .now) (s .result) (s .last .1 .1 .0) (s .ensures .0) (s .ensures .1))
 
 replay-refusal-requires : tie.Need-replay-refusal-requires
 replay-refusal-requires c κs = search needs
@@ -54,7 +54,7 @@ returns : tie.Need-returns
 returns c =
     let a = c .before .before .before .before .before .before .before .before .before .before .args in
     let is = c .before .before .replay-refusal .ensures in
-    as-lent _ (a .block-size) (cut (a .recording .now) (a .lengths .now)) (a .k) (a .words .now) (a .first .now) (a .second .now) (a .bins .now) (a .order .now)
+    as-lent _ (a .block-size) (a .low-first) (cut (a .recording .now) (a .lengths .now)) (a .k) (a .words .now) (a .first .now) (a .second .now) (a .bins .now) (a .order .now)
     (c .refused-replay .result) (λ z. c .before .if1 .taken (is ∙ z)) (c .refused-replay .ensures ∙ ap refusedReplay is)
 
 start-requires : tie.Need-start-requires
@@ -69,7 +69,7 @@ search-layered-requires c κs =
     let e = f .before .before .before .before .before .before in
     let a = entry e .args in
     subst (λ (q : State). searchRefusal (q .sampler) (length (q .words)) 0 (blocksOf (q .sampler)) (a .k) ≡ 0) (sym (arrived f))
-    (searchable (a .block-size) (a .words .now) (cut (a .recording .now) (a .lengths .now)) (free e .valid) (a .k) (free e .no-width))
+    (searchable (a .block-size) (a .low-first) (a .words .now) (cut (a .recording .now) (a .lengths .now)) (free e .valid) (a .k) (free e .no-width))
 
 blocks-requires : tie.Need-blocks-requires
 blocks-requires c κs = search needs
@@ -83,7 +83,7 @@ agreeing-requires c κs = search needs
 same-length : tie.Need-same-length
 same-length c =
     let f = c .before .before .before .before .before .before .before .before .before .before .before .before .before .before .before .before .before .before .before .before .before .before .before .before .before .before .before .before in
-    f .feed-pieces .kept .1 .0 ∙ f .before .before .before .before .start .kept .1 .0
+    f .feed-pieces .kept .1 .0 ∙ f .before .before .before .before .start .kept .1 .1 .0
 
 same-length-2 : tie.Need-same-length-2
 same-length-2 c = search needs
@@ -106,7 +106,7 @@ returns-2 c =
     let f = l .before .before .before .before .before .before .before .before in
     let e = f .before .before .before .before .before .before in
     let a = entry e .args in
-    replayed (a .block-size) (a .words .now) (cut (a .recording .now) (a .lengths .now)) (length (a .recording .now)) (a .lengths .now) (a .k) (a .first .now) (a .second .now)
+    replayed (a .block-size) (a .low-first) (a .words .now) (cut (a .recording .now) (a .lengths .now)) (length (a .recording .now)) (a .lengths .now) (a .k) (a .first .now) (a .second .now)
     (a .bins .now) (a .order .now) (free e) (f .feed-pieces .result) (l .search-layered .result) (d .brute-force-threads .result) (f .feed-pieces .last .1 .0)
     (l .search-layered .last .1 .1 .1 .0) (l .search-layered .last .1 .1 .1 .1 .0) (l .search-layered .last .1 .1 .1 .1 .1 .0) (l .search-layered .last .1 .1 .1 .1 .1 .1 .0)
     (d .brute-force-threads .last .1 .1 .1 .1 .1 .0) (d .brute-force-threads .last .1 .1 .1 .1 .1 .1 .0) (arrived f) (l .search-layered .ensures)

@@ -1,5 +1,6 @@
 -- `pass::find_with` meets its contract: the pick gives the winner, and ranking it once more leaves its counts and order in the buffers.
 use mathlib.Core.Path.{_≡_, refl, sym, ap, subst, _∙_}
+use mathlib.Core.Bool.{false}
 use mathlib.Core.List.{List, _++_}
 use Prim.Native.Nat.{ℕ, _^_, _≤_}
 use native.Mathlib.Omega.{arith}
@@ -130,6 +131,7 @@ returns c =
         bits = w .pick .ensures .0 i;
         division = rank i .division;
         z = rank i .z;
+        «low_first» = false;
       };
       counted = r .ensures .1 .0
           ∙ (λ i. countsOf bit (span (a .stretch)) (is-winner w i) ++ drop (2 ^ size w i) (w .pick .last .1 .1 .1 .1 .1 .1 .1 .0))

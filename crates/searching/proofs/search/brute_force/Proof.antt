@@ -25,7 +25,7 @@ returns c =
     let a = d .before .before .before .before .before .before .args in
     let is = d .layered-refusal .ensures in
     record {
-      search = search-refused _ _ _ _ (a .k) (a .bins .now) (a .order .now) (c .refused .result) (λ z. c .before .if1 .taken (is ∙ z))
+      search = search-refused _ _ _ _ _ (a .k) (a .bins .now) (a .order .now) (c .refused .result) (λ z. c .before .if1 .taken (is ∙ z))
           (c .refused .ensures ∙ ap refusedWith is);
       kept = (refl, refl);
     }
@@ -70,16 +70,19 @@ same-length-3 c = search needs
 same-length-4 : tie.Need-same-length-4
 same-length-4 c = search needs
 
+marked-requires : tie.Need-marked-requires
+marked-requires c κs = search needs
+
 returns-2 : tie.Need-returns-2
 returns-2 c =
-    let at-find = c .before .before .before .before .before .before .before .before in
+    let at-find = c .before .before .before .before .before .before .before .before .before in
     let at-stretch = at-find .before .before .before .before .before in
     let e = at-stretch .before in
     let x = at-stretch .stretch-of in
     let found = at-find .find-layered in
     let a = start e .args in
     record {
-      search = search-found _ (a .sampler) (a .words .now) (a .first) (a .end) (a .k) (x .result) (a .bins .now) (a .order .now) (found .result) _ _ (x .ensures) (none e) (found .ensures .0);
+      search = search-found _ (a .sampler) (a .words .now) (a .first) (a .end) (a .k) (x .result) (a .bins .now) (a .order .now) (found .result) (c .marked .result) _ _ (x .ensures) (none e) (found .ensures .0) (c .marked .ensures);
       kept = rw (none e) (subst (λ (y : Stretch).
           (drop (storeSize (y .«block_size») (a .k)) (found .last .1 .1 .1 .0) ≡ drop (storeSize (y .«block_size») (a .k)) (a .lower .now))
           × (drop (storeSize (y .«block_size») (a .k)) (found .last .1 .1 .1 .1 .0) ≡ drop (storeSize (y .«block_size») (a .k)) (a .upper .now))) (x .ensures) (found .ensures .1));
@@ -94,6 +97,7 @@ brute-force-spec =
     returns
     stretch-of-requires
     find-layered-requires
+    marked-requires
     same-length
     same-length-2
     same-length-3

@@ -21,7 +21,7 @@ returns c =
     let d = c .before .before in
     let a = d .before .before .before .before .args in
     let is = d .direct-refusal .ensures in
-    search-refused _ _ _ _ (a .k) (a .bins .now) (a .order .now) (c .refused .result) (λ z. c .before .if1 .taken (is ∙ z))
+    search-refused _ _ _ _ _ (a .k) (a .bins .now) (a .order .now) (c .refused .result) (λ z. c .before .if1 .taken (is ∙ z))
     (c .refused .ensures ∙ ap refusedWith is)
 
 -- ---- past the refusals
@@ -61,14 +61,17 @@ same-length c = search needs
 same-length-2 : tie.Need-same-length-2
 same-length-2 c = search needs
 
+marked-requires : tie.Need-marked-requires
+marked-requires c κs = search needs
+
 returns-2 : tie.Need-returns-2
 returns-2 c =
-    let at-find = c .before .before .before .before .before .before in
+    let at-find = c .before .before .before .before .before .before .before in
     let at-stretch = at-find .before .before .before .before .before .before in
     let e = at-stretch .before in
     let a = start e .args in
     let x = at-stretch .stretch-of in
-    search-found _ (a .sampler) (a .words .now) (a .first) (a .end) (a .k) (x .result) (a .bins .now) (a .order .now) (at-find .find .result) _ _ (x .ensures) (none e) (at-find .find .ensures)
+    search-found _ (a .sampler) (a .words .now) (a .first) (a .end) (a .k) (x .result) (a .bins .now) (a .order .now) (at-find .find .result) (c .marked .result) _ _ (x .ensures) (none e) (at-find .find .ensures) (c .marked .ensures)
 
 pub brute-force-threads-spec : {M : Type 1} → statement M
 brute-force-threads-spec =
@@ -82,6 +85,7 @@ brute-force-threads-spec =
     slice-aggregate-find-2
     slice-aggregate-find-3
     find-requires
+    marked-requires
     same-length
     same-length-2
     returns-2)

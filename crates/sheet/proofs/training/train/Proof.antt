@@ -1,6 +1,7 @@
 -- `training::train` meets its contract: a start and one feed are an acquisition, and the claim holds of the search of all its blocks.
 use borrow.Author.Needs.{needs}
 use mathlib.Core.Path.{_≡_, sym, ap, subst, _∙_}
+use mathlib.Core.Bool.{false}
 use mathlib.Core.List.{List, [], _∷_}
 use Prim.Native.Nat.{ℕ}
 use lib.ListN.{length}
@@ -51,8 +52,8 @@ returns c =
     let a = entry .args in
     let ws : List ℕ = begun .before .before .room .result in
     let first : begun .start .result .refusal ≡ 0 = ap (λ (r : Started). r .refusal) (begun .start .ensures .0) ∙ started-free (a .block-size) (length ws) (entry .pre .valid) in
-    let acquired : Acquisition (a .block-size) ws (a .training .now ∷ []) (fed .feed .result .refusal ∷ []) (fed .feed .result .sampler) (fed .feed .last .1 .0) =
-    next (fresh (begun .start .result) (begun .start .last .1 .0) (begun .start .ensures .0) (begun .start .ensures .1) first)
+    let acquired : Acquisition (a .block-size) false ws (a .training .now ∷ []) (fed .feed .result .refusal ∷ []) (fed .feed .result .sampler) (fed .feed .last .1 .0) =
+    next (fresh (begun .start .result) (begun .start .last .1 .1 .0) (begun .start .ensures .0) (begun .start .ensures .1) first)
     (a .training .now) (fed .feed .result) (fed .feed .last .1 .0) (fed .feed .ensures .0) (fed .feed .ensures .1) in
     training-found (a .block-size) (a .k) ws (a .training .now) (fed .feed .result .refusal ∷ []) (fed .feed .result .sampler) (fed .feed .last .1 .0) acquired
     (sym (begun .before .before .room .ensures)) (a .bins .now) (a .order .now) (entry .pre)

@@ -24,8 +24,9 @@ pub fn write(sheet: &mut Sheet, rules: &mut Rules, draws: &mut Draws) {
     cases.extend(rooms());
     cases.extend(malformed());
     cases.extend(damaged(draws));
+    cases.extend(low_firsts(draws));
     sheet.note("Readings. Each: the text's bytes, their number first; the entries of the order and of the scratch. Answer: the refusal, B, the width,");
-    sheet.note("the division, the pattern of z and 20 bits; the order; the scratch. Every entry of a buffer is 99 before.");
+    sheet.note("the division, the pattern of z, 20 bits and low_first; the order; the scratch. Every entry of a buffer is 99 before.");
     sheet.case([cases.len()]);
     let mut refusals = [0; 32];
     for case in &cases {
@@ -43,7 +44,8 @@ pub fn write(sheet: &mut Sheet, rules: &mut Rules, draws: &mut Draws) {
     }
 }
 
-/// That the reference reads an accepted text as the same numbers and finds them sound. A z that no double is near it does not read.
+/// That the reference reads an accepted text as the same numbers and finds them sound. A z that no double is near it does not read. It does not know
+/// low_first: that serde reads it the same, as a member of its own.
 fn same_there(text: &[u8], answer: &[Vec<u64>; 3]) {
     let found = match from_json(text) {
         Ok(found) => found,
@@ -51,9 +53,10 @@ fn same_there(text: &[u8], answer: &[Vec<u64>; 3]) {
     };
     let width = found.bits.len();
     let numbers = [vec![0, found.block_size, width, found.division, 0], found.bits.clone(), vec![0; 20 - width]].concat();
-    assert_eq!(answer[0], numbers.iter().map(|&number| number as u64).collect::<Vec<_>>());
+    assert_eq!(answer[0][..25], numbers.iter().map(|&number| number as u64).collect::<Vec<_>>());
     assert_eq!(answer[1][..found.order.len()], found.order.iter().map(|&bin| bin as u64).collect::<Vec<_>>());
     assert_eq!(validate(&found), Ok(()));
+    assert_eq!(low_first(text).map(u64::from), Ok(answer[0][25]));
 }
 
 /// What the reference's search finds, as the reference writes it, on one line, on several and in its report; and drawn findings.
@@ -153,7 +156,7 @@ fn keys() -> Vec<Case> {
     }
     for member in [
         r#""z_score":1,"z_score":1"#, r#""z":1"#, r#""Z_score":1"#, r#""z_score ":1"#, r#""z\u005fscore":1"#, r#""zscore":1"#, r#""k":1"#, r#""":1"#,
-        r#""sorted indices":[1,0]"#, r#""low_first":false"#,
+        r#""sorted indices":[1,0]"#, r#""low":true"#,
     ] {
         cases.push(and(member));
     }
@@ -320,6 +323,69 @@ fn rooms() -> Vec<Case> {
     cases
 }
 
+/// The value of low_first, in a place behind one of the members or before all.
+fn low(place: usize, value: &str) -> Case {
+    let mut members = PLAIN.map(String::from).to_vec();
+    members.insert(place, format!("\"low_first\":{value}"));
+    case(format!("{{{}}}", members.join(",")))
+}
+
+/// low_first in every place, with a z_score, with white space around each of its tokens and inside them, twice, in other spellings; values that are neither
+/// true nor false; beside a refusal; and a byte of it taken out, doubled or changed.
+fn low_firsts(draws: &mut Draws) -> Vec<Case> {
+    let mut cases = Vec::new();
+    for value in ["true", "false"] {
+        cases.extend((0..5).map(|place| low(place, value)));
+        for place in 0..5 {
+            cases.push(low(place, &format!("{value},\"z_score\":0.5")));
+        }
+        for other in ["true", "false"] {
+            cases.push(low(4, &format!("{value},\"low_first\":{other}")));
+            cases.push(case(object(&[&format!("\"low_first\":{value}"), BITS, INDICES, &format!("\"low_first\":{other}"), DIVISION, BLOCK])));
+        }
+    }
+    let tokens = [",", "\"low_first\"", ":", "true", "}"];
+    let front = &object(&PLAIN)[..object(&PLAIN).len() - 1];
+    for (place, token) in tokens.into_iter().enumerate() {
+        let with = |token: &str| case([front, &tokens[..place].concat(), token, &tokens[place + 1..].concat()].concat());
+        cases.extend([" ", "\t\n", "\r\n  ", "\0", "\x0b", "x"].map(|before| with(&format!("{before}{token}"))));
+        cases.extend((1..token.len()).map(|inside| with(&format!("{} {}", &token[..inside], &token[inside..]))));
+    }
+    for value in [
+        "True", "TRUE", "False", "tRue", "1", "0", "\"true\"", "\"false\"", "null", "tru", "t", "truee", "truex", "true1", "truefalse", "falsetrue", "fals",
+        "falsey", "false0", "[true]", "{}", "", "-true", "true.", "'true'", "yes", "true false", "true\0", "\0true", "\u{feff}true", "tr\\u0075e", "true:true",
+    ] {
+        cases.push(low(4, value));
+        cases.push(low(1, value));
+    }
+    for key in ["\"Low_first\"", "\"low_First\"", "\"low_first \"", "\"lowfirst\"", "\"low_firs\"", "\"low_firsts\"", "\"low\\u005ffirst\"", "low_first", "'low_first'"] {
+        cases.push(case(object(&[BITS, INDICES, DIVISION, BLOCK, &format!("{key}:true")])));
+    }
+    for member in ["\"low_first\"true", "\"low_first\"=true", "\"low_first\"", "true", "\"low_first\"::true", "\"low_first\":,"] {
+        cases.push(and(member));
+    }
+    for place in 0..4 {
+        let mut members = [&PLAIN[..], &["\"low_first\":true"]].concat();
+        members.remove(place);
+        cases.push(case(object(&members)));
+    }
+    for (order, scratch) in [(2, 2), (2, 1), (1, 2), (0, 0)] {
+        cases.push(Case { order, scratch, ..low(4, "true") });
+    }
+    for (place, member) in [(0, "\"bits\":[8]"), (1, "\"sorted_indices\":[1,1]"), (2, "\"best_division\":2"), (3, "\"block_size\":12")] {
+        let mut members = [&PLAIN[..], &["\"low_first\":true"]].concat();
+        members[place] = member;
+        cases.push(case(object(&members)));
+    }
+    for value in ["true", "false"] {
+        let text = low(4, value).text;
+        for place in front.len()..text.len() {
+            cases.extend(damaged_at(&text, place, b"abcdefilnorstuw_\",:{} 01", draws));
+        }
+    }
+    cases
+}
+
 /// No such object at all.
 fn malformed() -> Vec<Case> {
     let plain = object(&PLAIN);
@@ -356,16 +422,16 @@ fn malformed() -> Vec<Case> {
 fn damaged(draws: &mut Draws) -> Vec<Case> {
     let plain = object(&PLAIN).into_bytes();
     let bytes = b"0123456789{}[]:,\"-+.eE \t\n\rz_\\/\0\x7f\xff";
-    let mut cases = Vec::new();
-    for place in 0..plain.len() {
-        cases.push(case(&plain[..place]));
-        cases.push(case([&plain[..place], &plain[place + 1..]].concat()));
-        cases.push(case([&plain[..=place], &plain[place..]].concat()));
-        let mut changed = plain.clone();
-        while changed == plain {
-            changed[place] = bytes[draws.below(bytes.len())];
-        }
-        cases.push(case(changed));
+    (0..plain.len()).flat_map(|place| damaged_at(&plain, place, bytes, draws)).collect()
+}
+
+/// The same at one place of a text, the byte changed to one of these.
+fn damaged_at(text: &[u8], place: usize, bytes: &[u8], draws: &mut Draws) -> [Case; 4] {
+    let mut changed = text.to_vec();
+    while changed == text {
+        changed[place] = bytes[draws.below(bytes.len())];
     }
-    cases
+    let taken_out = [&text[..place], &text[place + 1..]].concat();
+    let doubled = [&text[..=place], &text[place..]].concat();
+    [case(&text[..place]), case(taken_out), case(doubled), case(changed)]
 }

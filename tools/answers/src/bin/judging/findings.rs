@@ -1,5 +1,6 @@
 //! Findings: sound and damaged ones, each checked and then evaluated on bytes.
 
+use answers::order::{both, high_first, reversed, turned};
 use answers::*;
 
 #[derive(Clone)]
@@ -16,23 +17,27 @@ struct Case {
 }
 
 pub fn write(sheet: &mut Sheet, draws: &mut Draws) {
-    let mut cases = damaged(draws);
-    cases.extend(searched(draws));
-    cases.extend(drawn(draws));
-    cases.extend(scores(draws));
+    let reverse = |case: &mut Case| case.bytes = reversed(&case.bytes);
+    let mut cases = both(damaged(draws));
+    cases.extend(turned(searched(draws), reverse));
+    cases.extend(both(drawn(draws)));
+    cases.extend(turned(scores(draws), reverse));
     cases.extend(run::sample().filter_map(case_of_run));
     sheet.note("Findings: the reference's validate, its refusals numbered by their words, and evaluate_histogram; by the rules 1 for B above 4,096 and 7");
-    sheet.note("for a short scratch. Each: B, width, 20 bits, division, the pattern of z; the order, its length first; the scratch's length; the bytes, their");
-    sheet.note("number first. Answer: the check's refusal; the scratch after it; the evaluation's refusal, positive blocks, and 1 and z or 0; the scratch after it.");
+    sheet.note("for a short scratch. Each: B, width, 20 bits, division, the pattern of z, the bit order; the order, its length first; the scratch's length; the");
+    sheet.note("bytes, their number first. Answer: the check's refusal; the scratch after it; the evaluation's refusal, positive blocks, and 1 and z or 0; the");
+    sheet.note("scratch after it.");
+    sheet.note(&order::note("the last ones as they are drawn"));
     sheet.note(&run::note());
     sheet.case([cases.len()]);
-    for case in &cases {
-        write_case(sheet, case);
+    for (case, low_first) in &cases {
+        write_case(sheet, case, *low_first);
     }
 }
 
-fn write_case(sheet: &mut Sheet, case: &Case) {
-    sheet.case([case.block_size, case.width].iter().chain(&case.bits).chain(&[case.division, case.z.to_bits() as usize]));
+fn write_case(sheet: &mut Sheet, case: &Case, low_first: bool) {
+    let last = [case.division, case.z.to_bits() as usize, low_first as usize];
+    sheet.case([case.block_size, case.width].iter().chain(&case.bits).chain(&last));
     sheet.list(&case.order);
     sheet.case([case.scratch]);
     sheet.list(&case.bytes);
@@ -49,7 +54,7 @@ fn write_case(sheet: &mut Sheet, case: &Case) {
         sheet.answer(&scratch);
         return;
     }
-    let evaluated = evaluate_histogram(&finding(case), &case.bytes);
+    let evaluated = evaluate_histogram(&finding(case), &high_first(&case.bytes, low_first));
     let blocks = case.bytes.len() / (case.block_size / 8);
     assert_eq!(evaluated.z.is_nan(), blocks == 0);
     let score = if blocks == 0 { vec![0] } else { vec![1, evaluated.z.to_bits()] };
@@ -219,14 +224,14 @@ fn drawn(draws: &mut Draws) -> Vec<Case> {
 
 /// A finding of the differential run with few entries and few bytes. Where the width is refused, or the order is too short for it, a long scratch says no
 /// more than a short one.
-fn case_of_run(case: run::Case) -> Option<Case> {
+fn case_of_run(case: run::Case) -> Option<(Case, bool)> {
     let run::Case::Judged(drawn) = case else { return None };
     if drawn.order.len() > 65 || drawn.bytes.len() > 80 {
         return None;
     }
     let mut bits: Vec<usize> = drawn.bits.iter().map(|&bit| bit as usize).collect();
     bits.resize(20, 0);
-    Some(Case {
+    let case = Case {
         block_size: drawn.block_size,
         width: drawn.width,
         bits,
@@ -236,7 +241,8 @@ fn case_of_run(case: run::Case) -> Option<Case> {
         z: f64::from_bits(u64::MAX),
         scratch: drawn.lent().min(66),
         bytes: drawn.bytes,
-    })
+    };
+    Some((case, drawn.low_first))
 }
 
 /// Scores below zero, zero and above it, all blocks positive and none.

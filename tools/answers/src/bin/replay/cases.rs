@@ -1,6 +1,7 @@
 //! The replays that are stored.
 
 use crate::{store_entries, Case};
+use answers::order::{both, high_first, reversed, turned};
 use answers::*;
 
 /// As many entries as the program's arrays have.
@@ -10,20 +11,22 @@ const BUFFER: usize = 512;
 const STORE: usize = 8448;
 const LENGTHS: usize = 64;
 
-pub fn all(draws: &mut Draws) -> Vec<Case> {
-    let mut cases = examples();
-    cases.extend(refused(draws));
-    cases.extend(nothing_held(draws));
-    cases.extend(full(draws));
-    cases.extend(stores(draws));
-    cases.extend(buffers(draws));
-    cases.extend(widths(draws));
-    cases.extend(tied(draws));
-    cases.extend(unfinished(draws));
-    cases.extend(blocks(draws));
-    cases.extend(longest_block(draws));
+/// Each with its bit order.
+pub fn all(draws: &mut Draws) -> Vec<(Case, bool)> {
+    let reverse = |case: &mut Case| case.recording = reversed(&case.recording);
+    let mut cases = both(examples());
+    cases.extend(both(refused(draws)));
+    cases.extend(both(nothing_held(draws)));
+    cases.extend(both(full(draws)));
+    cases.extend(turned(stores(draws), reverse));
+    cases.extend(turned(buffers(draws), reverse));
+    cases.extend(both(widths(draws)));
+    cases.extend(turned(tied(draws), reverse));
+    cases.extend(both(unfinished(draws)));
+    cases.extend(both(blocks(draws)));
+    cases.extend(both(longest_block(draws)));
     cases.extend(run::sample().filter_map(case_of_run));
-    for case in &cases {
+    for (case, _) in &cases {
         assert!(case.recording.len() <= BYTES && case.words <= WORDS && case.lengths.len() <= LENGTHS);
         assert!(case.bins.max(case.order) <= BUFFER && case.first.max(case.second) <= STORE);
     }
@@ -55,7 +58,8 @@ fn telling(draws: &mut Draws, block_size: usize, k: usize, kind: usize, bytes: u
     }
 }
 
-/// The searches of the rules' examples and other recordings, a piece to a byte, and eight words that are full.
+/// The searches of the rules' examples and other recordings, a piece to a byte, and eight words that are full; and bytes of which one bit alone is biased,
+/// whose number the bit order tells.
 fn examples() -> Vec<Case> {
     let mut cases = Vec::new();
     for (k, recording) in [(1, vec![0x80; 4]), (1, vec![0xFF, 0x00]), (3, vec![]), (2, vec![0x00, 0x00, 0xFF, 0xFF])] {
@@ -67,6 +71,11 @@ fn examples() -> Vec<Case> {
         cases.push(replay(block_size, k, block_size, &pieces, 0));
     }
     cases.push(replay(8, 1, 8, &[vec![0; 64], vec![0], vec![]], 0));
+    let biased = [0x02, 0xFF].repeat(5);
+    for (low_first, bit) in [(false, 6), (true, 1)] {
+        assert_eq!(bottomup(&high_first(&biased, low_first), 8, 1, 1).unwrap().bits, [bit]);
+    }
+    cases.extend([1, 2].map(|k| replay(8, k, 8, &[biased.clone()], 0)));
     cases
 }
 
@@ -265,7 +274,7 @@ fn longest_block(draws: &mut Draws) -> Vec<Case> {
 
 /// A short recording of the differential run in four pieces or more, replayed as it was cut there; buffers and stores have one entry too few, just enough,
 /// or one or two more.
-fn case_of_run(case: run::Case) -> Option<Case> {
+fn case_of_run(case: run::Case) -> Option<(Case, bool)> {
     let run::Case::Recording(drawn) = case else { return None };
     let (block_size, words, k) = (drawn.block_size, drawn.words, drawn.k);
     let searchable = drawn.searchable();
@@ -279,5 +288,5 @@ fn case_of_run(case: run::Case) -> Option<Case> {
     let [first, second] = drawn.stores.map(|more| entries(store, more));
     let (bins, order) = (entries(m, drawn.bins), entries(m, drawn.order));
     let lengths = drawn.pieces.iter().map(Vec::len).collect();
-    Some(Case { block_size, k, words, bins, order, first, second, recording: drawn.pieces.concat(), lengths })
+    Some((Case { block_size, k, words, bins, order, first, second, recording: drawn.pieces.concat(), lengths }, drawn.low_first))
 }

@@ -1,5 +1,6 @@
 //! Cases for `crates/replay_cases`: a recording in pieces, both searches after it, and all that was lent.
 
+use answers::order::high_first;
 use answers::*;
 
 mod cases;
@@ -28,15 +29,16 @@ fn main() {
     sheet.note("Findings: the reference's bottomup on the bytes held, with threads = 1; where the layered search runs, they agree where threads = 0 gives the same.");
     sheet.note("Counts: its evaluate_histogram on those bytes. Refusals, refused feeds, W and the words by the rules in that tool, where the row bits below n are");
     sheet.note("held against its transform_data. Every word is lent with all ones, every other entry as 99.");
-    sheet.note("Each: B, k, how many words, bins, entries of the order and of both stores are lent, and W (0 where the layered search does not run); the number of the");
-    sheet.note("recording's bytes, and each; the number of lengths, and each.");
-    sheet.note("Answer: a line with refusal, refused feeds, whether the layered search ran, whether the findings agree, B, width, 20 bits, division and the pattern of z;");
-    sheet.note("all words; the whole bin buffer; the whole order buffer; how many entries of each store, past W, are no longer as lent.");
+    sheet.note(&order::note("the last ones as they are drawn"));
+    sheet.note("Each: B, the bit order, k, how many words, bins, entries of the order and of both stores are lent, and W (0 where the layered search does not run); the");
+    sheet.note("number of the recording's bytes, and each; the number of lengths, and each.");
+    sheet.note("Answer: a line with refusal, refused feeds, whether the layered search ran, whether the findings agree, B, width, 20 bits, division, the pattern of z");
+    sheet.note("and the bit order; all words; the whole bin buffer; the whole order buffer; how many entries of each store, past W, are no longer as lent.");
     sheet.note(&run::note());
     let cases = cases::all(&mut Draws::new(10));
     sheet.case([cases.len()]);
-    for case in &cases {
-        write_case(&mut sheet, case);
+    for (case, low_first) in &cases {
+        write_case(&mut sheet, case, *low_first);
     }
     sheet.save();
 }
@@ -80,19 +82,19 @@ fn fed(case: &Case) -> (Vec<u8>, usize) {
 }
 
 /// The words after start and all feeds: bit b of block e at bit e mod 64 of word b * S + e / 64, an unfinished block's among them, and all else 0.
-fn words_after(case: &Case, held: &[u8]) -> Vec<u64> {
+fn words_after(case: &Case, low_first: bool, held: &[u8]) -> Vec<u64> {
     let size = case.block_size / 8;
     let stride = case.words / case.block_size;
     let mut words = vec![0u64; case.words];
     for (t, byte) in held.iter().enumerate() {
         for i in 0..8 {
             let (e, b) = (t / size, 8 * (t % size) + i);
-            if byte >> (7 - i) & 1 == 1 {
+            if byte >> if low_first { i } else { 7 - i } & 1 == 1 {
                 words[b * stride + e / 64] |= 1 << (e % 64);
             }
         }
     }
-    let rows = transform_data(held, case.block_size);
+    let rows = transform_data(&high_first(held, low_first), case.block_size);
     let n = rows.num_of_blocks();
     for (b, e) in (0..case.block_size).flat_map(|b| (0..n).map(move |e| (b, e))) {
         assert_eq!(words[b * stride + e / 64] >> (e % 64) & 1, rows.word(b, e / 64) >> (e % 64) & 1);
@@ -100,38 +102,39 @@ fn words_after(case: &Case, held: &[u8]) -> Vec<u64> {
     words
 }
 
-fn write_case(sheet: &mut Sheet, case: &Case) {
+fn write_case(sheet: &mut Sheet, case: &Case, low_first: bool) {
     let refusal = refusal(case);
     let store = if refusal == 0 { store_entries(case.block_size, case.k) } else { 0 };
     let layered = refusal == 0 && case.first >= store && case.second >= store;
     let free = if layered { store } else { 0 };
-    sheet.case([case.block_size, case.k, case.words, case.bins, case.order, case.first, case.second, free]);
+    sheet.case([case.block_size, low_first as usize, case.k, case.words, case.bins, case.order, case.first, case.second, free]);
     sheet.list(&case.recording);
     sheet.list(&case.lengths);
     if refusal != 0 {
         // Every field 0, and all as lent.
-        sheet.answer([refusal].into_iter().chain([0; 27]));
+        sheet.answer([refusal].into_iter().chain([0; 28]));
         sheet.answer(vec![WORD; case.words]);
         sheet.answer(vec![ENTRY; case.bins]);
         sheet.answer(vec![ENTRY; case.order]);
     } else {
-        answer(sheet, case, layered);
+        answer(sheet, case, low_first, layered);
     }
     sheet.answer([0, 0]);
 }
 
 /// The lines but the last of a case that is not refused.
-fn answer(sheet: &mut Sheet, case: &Case, layered: bool) {
+fn answer(sheet: &mut Sheet, case: &Case, low_first: bool, layered: bool) {
     let (held, refused) = fed(case);
-    let finding = bottomup(&held, case.block_size, case.k, 1).unwrap();
-    let agree = !layered || bottomup(&held, case.block_size, case.k, 0).unwrap() == finding;
+    let blocks = high_first(&held, low_first);
+    let finding = bottomup(&blocks, case.block_size, case.k, 1).unwrap();
+    let agree = !layered || bottomup(&blocks, case.block_size, case.k, 0).unwrap() == finding;
     let mut line = vec![0, refused as u64, layered as u64, agree as u64, finding.block_size as u64, finding.bits.len() as u64];
     line.extend(finding.bits.iter().map(|bit| *bit as u64));
     line.resize(26, 0);
-    line.extend([finding.division as u64, finding.z.to_bits()]);
+    line.extend([finding.division as u64, finding.z.to_bits(), low_first as u64]);
     sheet.answer(line);
-    sheet.answer(words_after(case, &held));
-    let mut bins = evaluate_histogram(&finding, &held).bins;
+    sheet.answer(words_after(case, low_first, &held));
+    let mut bins = evaluate_histogram(&finding, &blocks).bins;
     bins.resize(case.bins, ENTRY);
     sheet.answer(bins);
     let mut order = finding.order;

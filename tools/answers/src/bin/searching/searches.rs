@@ -1,11 +1,13 @@
 //! Whole searches, direct and layered, over recordings full of ties.
 
 use crate::binomial;
+use answers::order::{both, high_first, reversed, turned};
 use answers::*;
 
 mod stretches;
 
 /// A recording, and the searches made after it.
+#[derive(Clone)]
 struct Case {
     block_size: usize,
     words: usize,
@@ -13,8 +15,8 @@ struct Case {
     searches: Vec<Search>,
 }
 
-/// The stretch where it is not from 0 to the sampler's n, the width, the lengths of the buffers and stores, and the sampler's three fields where it is not the
-/// one last returned.
+/// The stretch where it is not from 0 to the sampler's n, the width, the lengths of the buffers and stores, and the sampler where it is not the one last
+/// returned.
 #[derive(Clone)]
 struct Search {
     stretch: Option<(usize, usize)>,
@@ -26,11 +28,13 @@ struct Search {
     sampler: Option<Sampler>,
 }
 
+/// Its numbers, and whether its bit order is not the recording's.
 #[derive(Clone, Copy)]
 struct Sampler {
     block_size: usize,
     words: usize,
     taken: usize,
+    turned: bool,
 }
 
 impl Sampler {
@@ -41,25 +45,34 @@ impl Sampler {
 }
 
 pub fn write(sheet: &mut Sheet, draws: &mut Draws) {
-    let mut cases = examples();
-    cases.extend(refused(draws));
-    cases.extend(other_samplers(draws));
-    cases.extend(plain());
-    cases.extend(with_ties(draws));
-    cases.extend(tied_divisions(draws));
-    cases.extend(long(draws));
+    let mut cases = both(examples());
+    cases.extend(both(refused(draws)));
+    cases.extend(both(other_samplers(draws)));
+    cases.extend(both(plain()));
+    cases.extend(both(with_ties(draws)));
+    cases.extend(turned(tied_divisions(draws), reverse));
+    cases.extend(both(long(draws)));
     cases.extend(stretches::cases(draws));
     cases.extend(run::sample().filter_map(case_of_run));
     sheet.note("Searches: the reference's bottomup on the blocks of the stretch alone, with threads = 1 for the direct and 0 for the layered search; the winner's counts by its evaluate_histogram.");
     sheet.note("Refusals, and the entries W that a store needs, by the rules in that tool.");
-    sheet.note("Each: B and the number of lent words; the number of pieces, and for each its length and its bytes; the number of searches, and for each first and end,");
-    sheet.note("k, the lengths of bin buffer, order buffer and both stores, W (0 where the layered search is refused), and 0, or 1 with another sampler's B, words and T.");
-    sheet.note("Answer: a line for the calls of start and feed; for each search, first direct, then layered: a line with refusal, B, width, 20 bits, division and the");
-    sheet.note("pattern of z; a line with the counts, one with the order, and one with how many other entries of each buffer (and store, past W) are no longer as lent.");
+    sheet.note(&order::note("the last ones as they are drawn"));
+    sheet.note("Each: B, the bit order and the number of lent words; the number of pieces, and for each its length and its bytes; the number of searches, and for each");
+    sheet.note("first and end, k, the lengths of bin buffer, order buffer and both stores, W (0 where the layered search is refused), and 0, or 1 with another sampler's");
+    sheet.note("B, words, T and bit order. Answer: a line for the calls of start and feed; for each search, first direct, then layered: a line with refusal, B, width, 20");
+    sheet.note("bits, division, the pattern of z and the bit order; a line with the counts, one with the order, and one with how many other entries of each buffer (and");
+    sheet.note("store, past W) are no longer as lent.");
     sheet.note(&run::note());
     sheet.case([cases.len()]);
-    for case in &cases {
-        write_case(sheet, case);
+    for (case, low_first) in &cases {
+        write_case(sheet, case, *low_first);
+    }
+}
+
+/// The same blocks in the other bit order.
+fn reverse(case: &mut Case) {
+    for piece in &mut case.pieces {
+        *piece = reversed(piece);
     }
 }
 
@@ -75,12 +88,17 @@ fn search(block_size: usize, k: usize, more: usize) -> Search {
     Search { stretch: None, k, bins: m + more, order: m + more, lower: store + more, upper: store + more, sampler: None }
 }
 
-/// The searches of the rules' examples.
+/// The searches of the rules' examples; and bytes of which one bit alone is biased, whose number the bit order tells.
 fn examples() -> Vec<Case> {
     let mut cases = Vec::new();
     for (k, recording) in [(1, vec![0x80; 4]), (1, vec![0xFF, 0x00]), (3, vec![]), (2, vec![0x00, 0x00, 0xFF, 0xFF])] {
         cases.push(Case { block_size: 8, words: 8, pieces: vec![recording], searches: vec![search(8, k, 1)] });
     }
+    let biased = [0x02, 0xFF].repeat(5);
+    for (low_first, bit) in [(false, 6), (true, 1)] {
+        assert_eq!(bottomup(&high_first(&biased, low_first), 8, 1, 1).unwrap().bits, [bit]);
+    }
+    cases.push(Case { block_size: 8, words: 8, pieces: vec![biased], searches: vec![search(8, 1, 1), search(8, 2, 1)] });
     cases
 }
 
@@ -90,7 +108,7 @@ fn refused(draws: &mut Draws) -> Vec<Case> {
     let held = vec![draws.bytes(21), draws.bytes(8)];
     let good = search(8, 2, 1);
     // A sampler of B = 8 that was lent 17 words: 128 bytes at most.
-    let returned = Sampler { block_size: 8, words: 17, taken: 29 };
+    let returned = Sampler { block_size: 8, words: 17, taken: 29, turned: false };
     let mut bad = Vec::new();
     for block_size in [0, 4, 12, 4104, 1 << 32] {
         bad.push(Sampler { block_size, ..returned });
@@ -140,16 +158,19 @@ fn refused(draws: &mut Draws) -> Vec<Case> {
     cases
 }
 
-/// Samplers that say fewer or more bytes than were fed, within capacity: blocks that were not fed are all zeros.
+/// Samplers that say fewer or more bytes than were fed, within capacity: blocks that were not fed are all zeros. And one that says the other bit order, which
+/// its finding has: the words stay as they were fed.
 fn other_samplers(draws: &mut Draws) -> Vec<Case> {
     let mut cases = Vec::new();
     for (block_size, words, fed) in [(8, 16, 100), (16, 35, 150), (24, 24, 60)] {
         let pieces = vec![recording(draws, 5, fed)];
         let mut searches = Vec::new();
         for taken in [0, 1, fed / 2, fed - 1, fed + 1, capacity_bytes(block_size, words)] {
-            let sampler = Some(Sampler { block_size, words, taken });
+            let sampler = Some(Sampler { block_size, words, taken, turned: false });
             searches.push(Search { sampler, ..search(block_size, 2, 1) });
         }
+        let sampler = Some(Sampler { block_size, words, taken: fed, turned: true });
+        searches.push(Search { sampler, ..search(block_size, 2, 1) });
         cases.push(Case { block_size, words, pieces, searches });
     }
     cases
@@ -231,17 +252,12 @@ fn long(draws: &mut Draws) -> Vec<Case> {
     }
     let recording = recording(draws, 5, 8 * 70);
     cases.push(Case { block_size: 64, words: 128, pieces: vec![recording], searches: vec![search(64, 4, 1)] });
-    // One block more than are marked at once, the last two unlike the others. Each byte is one digit, to keep the file small.
-    let mut recording: Vec<u8> = (0..32_769).map(|_| draws.below(8) as u8).collect();
-    recording[32_767..].copy_from_slice(&[9, 8]);
-    let pieces = cut(draws, &recording, 3);
-    cases.push(Case { block_size: 8, words: 8 * 513, pieces, searches: vec![search(8, 1, 1), search(8, 3, 1)] });
     cases
 }
 
 /// A short recording of the differential run with its search, of all blocks and of the drawn stretch where that is another. Buffers and stores have one entry
 /// too few, just enough, or one or two more.
-fn case_of_run(case: run::Case) -> Option<Case> {
+fn case_of_run(case: run::Case) -> Option<(Case, bool)> {
     let run::Case::Recording(drawn) = case else { return None };
     let (block_size, words, k) = (drawn.block_size, drawn.words, drawn.k);
     let searchable = drawn.searchable();
@@ -254,21 +270,21 @@ fn case_of_run(case: run::Case) -> Option<Case> {
     // Where the width is refused, any buffer will do.
     let m = if searchable { 1 << k } else { 2 };
     let [lower, upper] = drawn.stores.map(|more| entries(store as usize, more));
-    let past = Sampler { block_size, words, taken: capacity_bytes(block_size, words) + 1 };
+    let past = Sampler { block_size, words, taken: capacity_bytes(block_size, words) + 1, turned: false };
     let search = Search { stretch: None, k, bins: entries(m, drawn.bins), order: entries(m, drawn.order), lower, upper, sampler: drawn.stale.then_some(past) };
     let stretch = Some((drawn.stretch.start, drawn.stretch.end));
     let whole = drawn.stretch == (0..drawn.blocks());
     let searches = if whole { vec![search] } else { vec![search.clone(), Search { stretch, ..search }] };
-    Some(Case { block_size, words, pieces: drawn.pieces, searches })
+    Some((Case { block_size, words, pieces: drawn.pieces, searches }, drawn.low_first))
 }
 
-fn write_case(sheet: &mut Sheet, case: &Case) {
-    let held = write_recording(sheet, case.block_size, case.words, &case.pieces);
-    // After a refused start every field of the sampler is 0.
+fn write_case(sheet: &mut Sheet, case: &Case, low_first: bool) {
+    let held = write_recording(sheet, case.block_size, low_first, case.words, &case.pieces);
+    // After a refused start every number of the sampler is 0.
     let returned = if valid(case.block_size) {
-        Sampler { block_size: case.block_size, words: case.words, taken: held.len() }
+        Sampler { block_size: case.block_size, words: case.words, taken: held.len(), turned: false }
     } else {
-        Sampler { block_size: 0, words: 0, taken: 0 }
+        Sampler { block_size: 0, words: 0, taken: 0, turned: false }
     };
     sheet.case([case.searches.len()]);
     for search in &case.searches {
@@ -276,12 +292,13 @@ fn write_case(sheet: &mut Sheet, case: &Case) {
         let (first, end) = search.stretch.unwrap_or((0, sampler.blocks()));
         // What the sampler says was taken; words that were not fed are zero.
         let taken = sampler.taken.min(1 << 16);
-        let mut seen = held.clone();
+        let mut seen = high_first(&held, low_first).into_owned();
         seen.resize(taken, 0);
         let direct = refusal(case, search, sampler, false);
         let layered = refusal(case, search, sampler, true);
         let free = if layered == 0 { store_entries(sampler.block_size, search.k) } else { 0 };
-        let given = [sampler.block_size, sampler.words, sampler.taken];
+        let order = (low_first != sampler.turned) as usize;
+        let given = [sampler.block_size, sampler.words, sampler.taken, order];
         let lengths = [first, end, search.k, search.bins, search.order, search.lower, search.upper, free as usize];
         sheet.case(lengths.into_iter().chain(match search.sampler {
             None => vec![0],
@@ -289,8 +306,8 @@ fn write_case(sheet: &mut Sheet, case: &Case) {
         }));
         let size = sampler.block_size / 8;
         let blocks = if direct == 0 || layered == 0 { &seen[first * size..end * size] } else { &[] };
-        answer(sheet, search, sampler, blocks, direct, 1);
-        answer(sheet, search, sampler, blocks, layered, 0);
+        answer(sheet, search, [sampler.block_size, order], blocks, direct, 1);
+        answer(sheet, search, [sampler.block_size, order], blocks, layered, 0);
     }
 }
 
@@ -319,21 +336,22 @@ fn refusal(case: &Case, search: &Search, sampler: Sampler, layered: bool) -> usi
     0
 }
 
-fn answer(sheet: &mut Sheet, search: &Search, sampler: Sampler, blocks: &[u8], refusal: usize, threads: usize) {
+/// What a search answers, given B and the sampler's bit order.
+fn answer(sheet: &mut Sheet, search: &Search, [block_size, order]: [usize; 2], blocks: &[u8], refusal: usize, threads: usize) {
     let unchanged = if threads == 0 { vec![0; 4] } else { vec![0; 2] };
     if refusal != 0 {
         // Every field 0, no counts, no order, and all entries as lent.
-        sheet.answer([refusal].into_iter().chain([0; 24]));
+        sheet.answer([refusal].into_iter().chain([0; 25]));
         sheet.answer(Vec::<usize>::new());
         sheet.answer(Vec::<usize>::new());
         sheet.answer(unchanged);
         return;
     }
-    let finding = bottomup(blocks, sampler.block_size, search.k, threads).unwrap();
+    let finding = bottomup(blocks, block_size, search.k, threads).unwrap();
     let mut line = vec![0, finding.block_size as u64, finding.bits.len() as u64];
     line.extend(finding.bits.iter().map(|bit| *bit as u64));
     line.resize(23, 0);
-    line.extend([finding.division as u64, finding.z.to_bits()]);
+    line.extend([finding.division as u64, finding.z.to_bits(), order as u64]);
     sheet.answer(line);
     sheet.answer(evaluate_histogram(&finding, blocks).bins);
     sheet.answer(finding.order);

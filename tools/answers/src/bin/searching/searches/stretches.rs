@@ -2,12 +2,10 @@
 
 use super::*;
 
-pub fn cases(draws: &mut Draws) -> Vec<Case> {
-    let mut cases = at_ends_of_words(draws);
-    cases.push(refused(draws));
-    cases.push(other_samplers(draws));
-    cases.push(at_ends_of_chunks(draws));
-    cases.extend(long_blocks(draws));
+pub fn cases(draws: &mut Draws) -> Vec<(Case, bool)> {
+    let mut cases = both(at_ends_of_words(draws));
+    cases.extend(both(vec![refused(draws), other_samplers(draws), at_ends_of_chunks(draws)]));
+    cases.extend(turned(long_blocks(draws), reverse));
     cases
 }
 
@@ -59,7 +57,7 @@ fn refused(draws: &mut Draws) -> Case {
         }
         // After 4.
         for (block_size, words, taken) in [(12, 17, 29), (8, 16, 29), (8, 17, 129), (0, 17, 29)] {
-            let sampler = Some(Sampler { block_size, words, taken });
+            let sampler = Some(Sampler { block_size, words, taken, turned: false });
             searches.push(in_stretch(first, end, Search { sampler, ..good.clone() }));
         }
     }
@@ -78,7 +76,7 @@ fn other_samplers(draws: &mut Draws) -> Case {
         (21, 0, 10), (21, 3, 10), (21, 0, 11), (0, 0, 0), (0, 0, 1), (1, 0, 1), (65, 30, 32), (65, 0, 33), (66, 0, 33), (66, 32, 33),
         (255, 0, 127), (255, 0, 128), (256, 20, 128), (256, 63, 65), (256, 64, 128), (256, 128, 128), (256, 0, 129),
     ] {
-        let sampler = Some(Sampler { block_size, words, taken });
+        let sampler = Some(Sampler { block_size, words, taken, turned: false });
         searches.push(in_stretch(first, end, Search { sampler, ..search(block_size, 2, 1) }));
     }
     Case { block_size, words, pieces: vec![recording(draws, 5, 64)], searches }
@@ -91,6 +89,10 @@ fn at_ends_of_chunks(draws: &mut Draws) -> Case {
     let pieces = cut(draws, &recording, 3);
     let places = [&CHUNK_ENDS[..], &[(32_768, 33_001)], &SHORT_CHUNK_ENDS].concat();
     let mut searches = vec![search(8, 5, 1)];
+    // All blocks, and one block more than are marked at once.
+    for k in [1, 3] {
+        searches.extend([search(8, k, 1), in_stretch(0, 32_769, search(8, k, 1))]);
+    }
     searches.extend(places.into_iter().map(|(first, end)| in_stretch(first, end, search(8, 5, 1))));
     Case { block_size: 8, words: 8 * 516 + 3, pieces, searches }
 }

@@ -1,0 +1,104 @@
+-- What is best with the low bit first is best with the high bit first in the reversed bytes (theorem `best-reversed`), and a search is the same but for the
+-- mark (`low-is-high-reversed`): the words are the same, and no refusal and no count goes by the sampler's bit order.
+use mathlib.Core.Path.{_≡_, refl, sym, ap, subst, _∙_}
+use mathlib.Core.Bool.{Bool, true, false}
+use mathlib.Core.List.{List}
+use Prim.Native.Nat.{ℕ, zero, suc, _+_, _-_}
+use lib.ListN.{length, replicate}
+use Rattle.counting.specs.Block.{validSize}
+use Rattle.counting.specs.Recorded.{State, started, fedAll, answersFrom}
+use Rattle.counting.specs.Recording.{recordedBit}
+use Rattle.counting.specs.Reversed.{reversedBytes, reversedPieces, highFirst}
+use Rattle.counting.specs.Sample.{onward}
+use Rattle.counting.specs.Sampling.{startedOf, startedWords, samplerRefusal}
+use Rattle.counting.specs.Stretch.{stretchOf, stretchRefusal, stretchBit, span}
+use Rattle.counting.specs.declared.sampling.Sampler.{Sampler}
+use Rattle.counting.proofs.Reversing.{reversal, all-reversed}
+use Rattle.searching.specs.Claim.{Best}
+use Rattle.searching.specs.Refusal.{searchRefusal, directRefusal, layeredRefusal}
+use Rattle.searching.specs.Search.{answerOf, StretchSearch, DirectSearch, LayeredSearch}
+use Rattle.searching.specs.Reversed.{BestReversed, unmarked, SameUnmarked, LowAsHigh, LowIsHighReversed}
+use Rattle.searching.specs.declared.finding.Searched.{Searched}
+use Rattle.searching.proofs.Claiming.{stands}
+
+-- a start's state goes by the number of words alone
+start-same : (B : ℕ) (low : Bool) (ws ws′ : List ℕ) → validSize B ≡ true → length ws ≡ length ws′ → started B low ws′ ≡ started B low ws
+unfolding started startedOf startedWords
+start-same B low ws ws′ ok e = simp (ok, e) refl
+
+-- ---- what is best
+
+pub best-reversed : BestReversed
+best-reversed B held first end k f bins order b =
+    let bits : onward first (recordedBit B true held) ≡ onward first (recordedBit B false (reversedBytes held)) =
+    λ i e c. reversal .recorded B held (first + e) c i in
+    let m = subst (λ (bit : ℕ → ℕ → ℕ). Best true bit (end - first) B k f bins order) bits b in
+    record {
+      block = m .block;
+      width = m .width;
+      bitOrder = refl;
+      chosen = m .chosen;
+      zeros = m .zeros;
+      counted = m .counted;
+      division = m .division;
+      z = m .z;
+      ordered = m .ordered;
+      beats = m .beats;
+    }
+
+-- ---- one search
+
+module _ (s : Sampler) (ws : List ℕ) (first end k : ℕ) where
+  unmarked-is : (r : ℕ) → let x = stretchOf s (length ws) first end in
+      unmarked (answerOf r (s .«low_first») (stretchBit x ws) (span x) (s .«block_size») k) ≡ answerOf r false (stretchBit x ws) (span x) (s .«block_size») k
+  unmarked-is zero = refl
+  unmarked-is (suc r) = refl
+
+  search-same : (q : ℕ) (bins order : List ℕ) (r : Searched) (bins₁ order₁ : List ℕ) → StretchSearch q s ws first end k bins order r bins₁ order₁
+      → (r′ : Searched) (bins₁′ order₁′ : List ℕ) → StretchSearch q (highFirst s) ws first end k bins order r′ bins₁′ order₁′
+      → SameUnmarked r bins₁ order₁ r′ bins₁′ order₁′
+  search-same q bins order r bins₁ order₁ S r′ bins₁′ order₁′ S′ = record {
+    answers = ap unmarked (S .answered) ∙ unmarked-is q ∙ sym (S′ .answered);
+    counts = S .counted ∙ sym (S′ .counted);
+    orders = S .ordered ∙ sym (S′ .ordered);
+  }
+
+  direct-same : (bins order : List ℕ) (r : Searched) (bins₁ order₁ : List ℕ) → DirectSearch s ws first end k bins order r bins₁ order₁
+      → (r′ : Searched) (bins₁′ order₁′ : List ℕ) → DirectSearch (highFirst s) ws first end k bins order r′ bins₁′ order₁′
+      → SameUnmarked r bins₁ order₁ r′ bins₁′ order₁′
+  unfolding directRefusal searchRefusal samplerRefusal stretchRefusal
+  direct-same bins order r bins₁ order₁ S r′ bins₁′ order₁′ S′ = search-same _ bins order r bins₁ order₁ S r′ bins₁′ order₁′ S′
+
+  layered-same : (lower upper bins order : List ℕ) (r : Searched) (lower₁ upper₁ bins₁ order₁ : List ℕ)
+      → LayeredSearch s ws first end k lower upper bins order r lower₁ upper₁ bins₁ order₁
+      → (r′ : Searched) (lower₁′ upper₁′ bins₁′ order₁′ : List ℕ) → LayeredSearch (highFirst s) ws first end k lower upper bins order r′ lower₁′ upper₁′ bins₁′ order₁′
+      → SameUnmarked r bins₁ order₁ r′ bins₁′ order₁′
+  unfolding layeredRefusal searchRefusal samplerRefusal stretchRefusal
+  layered-same lower upper bins order r lower₁ upper₁ bins₁ order₁ S r′ lower₁′ upper₁′ bins₁′ order₁′ S′ =
+      search-same _ bins order r bins₁ order₁ (S .search) r′ bins₁′ order₁′ (S′ .search)
+
+-- ---- after any feeds
+
+pub low-is-high-reversed : LowIsHighReversed
+low-is-high-reversed B pieces ws answers s ws₁ acquired ws′ answers′ s′ ws₁′ acquired′ size =
+    let L = stands acquired in
+    let H = stands acquired′ in
+    let R = all-reversed B ws (L .valid) pieces in
+    let begin = start-same B false ws ws′ (L .valid) size in
+    let high : record { sampler = s′; words = ws₁′ } ≡ fedAll (started B false ws) (reversedPieces pieces) =
+    H .state ∙ ap (λ (u : State). fedAll u (reversedPieces pieces)) begin in
+    let words : ws₁′ ≡ ws₁ = ap (λ (u : State). u .words) high ∙ R .words ∙ sym (ap (λ (u : State). u .words) (L .state)) in
+    let sampler : s′ ≡ highFirst s = ap (λ (u : State). u .sampler) high ∙ R .sampler ∙ sym (ap (λ (u : State). highFirst (u .sampler)) (L .state)) in
+    record {
+      fed = H .said ∙ ap (λ (u : State). answersFrom u (reversedPieces pieces)) begin ∙ R .answers ∙ sym (L .said);
+      words = words;
+      sampler = sampler;
+      direct = λ first end k bins order r bins₁ order₁ S r′ bins₁′ order₁′ S′.
+          direct-same s ws₁ first end k bins order r bins₁ order₁ S r′ bins₁′ order₁′
+          (subst (λ (l : List ℕ). DirectSearch (highFirst s) l first end k bins order r′ bins₁′ order₁′) words
+          (subst (λ (q : Sampler). DirectSearch q ws₁′ first end k bins order r′ bins₁′ order₁′) sampler S′));
+      layered = λ first end k lower upper bins order r lower₁ upper₁ bins₁ order₁ S r′ lower₁′ upper₁′ bins₁′ order₁′ S′.
+          layered-same s ws₁ first end k lower upper bins order r lower₁ upper₁ bins₁ order₁ S r′ lower₁′ upper₁′ bins₁′ order₁′
+          (subst (λ (l : List ℕ). LayeredSearch (highFirst s) l first end k lower upper bins order r′ lower₁′ upper₁′ bins₁′ order₁′) words
+          (subst (λ (q : Sampler). LayeredSearch q ws₁′ first end k lower upper bins order r′ lower₁′ upper₁′ bins₁′ order₁′) sampler S′));
+    }

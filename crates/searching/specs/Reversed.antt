@@ -1,0 +1,52 @@
+-- A search with the low bit first is, but for the mark, the search with the high bit first of bytes with their bits reversed.
+use mathlib.Core.Path.{_≡_}
+use mathlib.Core.Bool.{true, false}
+use mathlib.Core.List.{List}
+use Prim.Native.Nat.{ℕ}
+use lib.ListN.{length}
+use Rattle.counting.specs.Reversed.{reversedBytes, reversedPieces, highFirst}
+use Rattle.counting.specs.declared.sampling.Sampler.{Sampler}
+use Rattle.searching.specs.Claim.{Acquisition, BestIn}
+use Rattle.searching.specs.Finding.{marked}
+use Rattle.searching.specs.Search.{DirectSearch, LayeredSearch}
+use Rattle.searching.specs.declared.finding.Finding.{Finding}
+use Rattle.searching.specs.declared.finding.Searched.{Searched}
+
+-- Theorem: what is best in a recording with the low bit first is, but for the mark, best in the recording of its reversed bytes with the high bit first.
+abbrev pub BestReversed : Type 0
+BestReversed =
+    (B : ℕ) (held : List ℕ) (first end k : ℕ) (f : Finding) (bins order : List ℕ)
+    → BestIn B true held first end k f bins order → BestIn B false (reversedBytes held) first end k (marked false f) bins order
+
+-- the answer with its finding's mark at high first
+abbrev pub unmarked : Searched → Searched
+unmarked r = record { refusal = r .refusal; finding = marked false (r .finding) }
+
+-- Two searches, given the same but for the sampler and the words, answer the same but for the mark, and leave the same counts and order.
+pub record SameUnmarked (r : Searched) (bins order : List ℕ) (r′ : Searched) (bins′ order′ : List ℕ) : Type 0 where
+  pub answers : unmarked r ≡ r′
+  pub counts : bins ≡ bins′
+  pub orders : order ≡ order′
+
+-- What holds of acquisitions of some pieces with the low bit first, which left s and ws, and of the reversed pieces with the high bit first, which left s′ and
+-- ws′: the feeds answered the same, the words are the same and the samplers but for the bit order, and so is each search, refused or not.
+pub record LowAsHigh (answers : List ℕ) (s : Sampler) (ws : List ℕ) (answers′ : List ℕ) (s′ : Sampler) (ws′ : List ℕ) : Type 0 where
+  pub fed : answers′ ≡ answers
+  pub words : ws′ ≡ ws
+  pub sampler : s′ ≡ highFirst s
+  pub direct :
+      (first end k : ℕ) (bins order : List ℕ) (r : Searched) (bins₁ order₁ : List ℕ) → DirectSearch s ws first end k bins order r bins₁ order₁
+      → (r′ : Searched) (bins₁′ order₁′ : List ℕ) → DirectSearch s′ ws′ first end k bins order r′ bins₁′ order₁′
+      → SameUnmarked r bins₁ order₁ r′ bins₁′ order₁′
+  pub layered :
+      (first end k : ℕ) (lower upper bins order : List ℕ) (r : Searched) (lower₁ upper₁ bins₁ order₁ : List ℕ)
+      → LayeredSearch s ws first end k lower upper bins order r lower₁ upper₁ bins₁ order₁
+      → (r′ : Searched) (lower₁′ upper₁′ bins₁′ order₁′ : List ℕ) → LayeredSearch s′ ws′ first end k lower upper bins order r′ lower₁′ upper₁′ bins₁′ order₁′
+      → SameUnmarked r bins₁ order₁ r′ bins₁′ order₁′
+
+-- Theorem: that holds of all such acquisitions, in as many words.
+abbrev pub LowIsHighReversed : Type 0
+LowIsHighReversed =
+    (B : ℕ) (pieces : List (List ℕ)) (ws : List ℕ) (answers : List ℕ) (s : Sampler) (ws₁ : List ℕ) → Acquisition B true ws pieces answers s ws₁
+    → (ws′ : List ℕ) (answers′ : List ℕ) (s′ : Sampler) (ws₁′ : List ℕ) → Acquisition B false ws′ (reversedPieces pieces) answers′ s′ ws₁′
+    → length ws ≡ length ws′ → LowAsHigh answers s ws₁ answers′ s′ ws₁′
