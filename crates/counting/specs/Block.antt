@@ -13,11 +13,11 @@ validSize B = cond (eqb (B % 8) 0) (cond (leb 8 B) (leb B 4096) false) false
 abbrev pub bitAt : ℕ → ℕ → ℕ
 bitAt w j = w / 2 ^ j % 2
 
--- which bit of a byte is the r-th of its 8 bits: bit r where the low bit comes first, else bit 7 − r
+-- which bit of a byte is number r of its 8, from 0 on, in the bit order: bit r where the low bit comes first, else bit 7 − r
 unfoldable pub placeIn : Bool → ℕ → ℕ
 placeIn low r = cond low r (7 - r)
 
--- bit b of a block: the (b mod 8)-th bit of its byte floor(b / 8) (`bit_value_in_block`)
+-- bit b of a block: number b mod 8 of its byte floor(b / 8), in the bit order (`bit_value_in_block`)
 unfoldable pub blockBit : Bool → List ℕ → ℕ → ℕ
 blockBit low block b = bitAt (getD block (b / 8) 0) (placeIn low (b % 8))
 

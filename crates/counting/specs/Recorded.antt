@@ -42,7 +42,7 @@ pub record HoldsRecording (B : ℕ) (low : Bool) (words : ℕ) (st : State) (hel
   pub within : length held ≤ capacityBytes B words
   pub stored : AgreeBelow (blocksIn B held) B (storedBit (stride B words) (st .words)) (recordedBit B low held)
 
--- Theorem: after a start that is not refused and any list of feeds, a feed is refused just where the plain recording refuses it, `taken` is the number
+-- Theorem: after a start in either bit order that is not refused and any list of feeds, a feed is refused just where the plain recording refuses it, `taken` is the number
 -- of bytes held, and for every e below the recording's n and b < B the stored bit is the recording's.
 pub record Recorded (B : ℕ) (low : Bool) (ws : List ℕ) (pieces : List (List ℕ)) : Type 0 where
   pub answers : answersFrom (started B low ws) pieces ≡ refusalsFrom B (length ws) [] pieces

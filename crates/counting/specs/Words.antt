@@ -29,7 +29,7 @@ unfoldable pub putBytes : Bool → ℕ → ℕ → List ℕ → ℕ → List ℕ
 putBytes low size S ws t piece zero = ws
 putBytes low size S ws t piece (suc n) = putByte low size S (putBytes low size S ws t piece n) (t + n) (getD piece n 0)
 
--- bit b of block e where its byte, number e × size + floor(b / 8) of the recording, is among the piece's, which are those from number t on; else 0
+-- bit b of block e, in the bit order, where its byte, number e × size + floor(b / 8) of the recording, is among the piece's, which are those from number t on; else 0
 unfoldable pub arrivingBit : Bool → ℕ → ℕ → List ℕ → ℕ → ℕ → ℕ
 arrivingBit low size t piece e b =
     let byte = e * size + b / 8 in cond (leb t byte) (bitAt (getD piece (byte - t) 0) (placeIn low (b % 8))) 0

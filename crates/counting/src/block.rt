@@ -20,7 +20,7 @@ pub fn valid_block_size(block_size: usize) -> bool
     true
 }
 
-// Which bit of a byte is the r-th of its 8 bits in the bit order.
+// Which bit of a byte is number r of its 8, from 0 on, in the bit order.
 pub fn place_in(low_first: bool, r: usize) -> usize
     requires { ⌜ r < 8 ⌝ }
     ensures { λ p. ⌜ (p ≡ placeIn «low_first» r) × (p < 8) ⌝ }
