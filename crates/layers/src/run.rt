@@ -1,5 +1,5 @@
 // A run: the subsets that differ in their last bit alone. The rows of the other bits are ANDed once for all of them, and from one
-// to the next each rank that is needed grows by one, so no subset costs a walk over the block.
+// to the next each rank that is needed grows by one, so no subset asks for one.
 use counting::rows::multi_eval;
 use counting::stretch::Stretch;
 use subsets::rank::rank_of;

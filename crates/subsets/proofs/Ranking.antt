@@ -1,17 +1,17 @@
--- Ranks: the number of k-subsets before s is the sum of binomials that `indexFrom` adds up, and from each subset to the next it grows by 1.
+-- Ranks: the k-subsets before s, s itself and the ways above its bits are all k-subsets, and from each subset to the next the rank grows by 1.
 use mathlib.Core.Path.{_≡_, refl, sym, ap, ap₂, subst, _∙_}
 use mathlib.Core.Logic.{_⊎_, inl, inr}
 use Prim.Native.Nat.{ℕ, zero, suc, _+_, _-_, _≤_, _<_}
-use native.Mathlib.Nat.{zero-add, add-zero, eq-or-lt-of-le}
+use native.Mathlib.Nat.{zero-add, eq-or-lt-of-le}
 use native.Mathlib.Omega.{arith}
 use mathlib.Core.Bool.{Bool, true, cond}
 use mathlib.Core.List.{List, [], _∷_, _++_, map, append-assoc, List·Memᴰ}
 use lib.Dec.{T}
 use lib.ListN.{length, length-append, length-map}
-use borrow.Author.Tests.{le-ltb, lt-ltb, eq-eqb, ne-eqb}
+use borrow.Author.Tests.{le-ltb, lt-ltb, eq-eqb}
 use Rattle.subsets.specs.Subsets.{Rising, Subset, lexLt, subsetsFrom, subsets, numbersFrom, Next, Last}
 use Rattle.subsets.specs.Choose.{choose}
-use Rattle.subsets.specs.Rank.{countBefore, rankOf, indexFrom, Ranks, SubsetsRanked}
+use Rattle.subsets.specs.Rank.{countBefore, rankOf, waysAbove, Ranks, SubsetsRanked}
 use Rattle.subsets.proofs.Lex.{lex-irrefl, lex-asym, lex-cases, lex-total}
 use Rattle.subsets.proofs.Listing.{sound, Among, listed}
 use Rattle.subsets.proofs.Visiting.{length-numbers, numbers-first}
@@ -27,7 +27,7 @@ length-subsets (suc m) lo (suc k) =
     length-append (map (λ t. lo ∷ t) (subsetsFrom m (suc lo) k)) (subsetsFrom m (suc lo) (suc k))
     ∙ ap₂ _+_ (length-map (subsetsFrom m (suc lo) k) (λ t. lo ∷ t) ∙ length-subsets m (suc lo) k) (length-subsets m (suc lo) (suc k))
 
--- ---- the sum is the rank
+-- ---- the rank by the chosen bits
 
 lex-same : (a : ℕ) (s t : List ℕ) → lexLt (a ∷ s) (a ∷ t) ≡ lexLt s t
 lex-same a s t = rw (le-ltb a a (omega arith), eq-eqb a a refl)
@@ -49,12 +49,14 @@ later : (a hi k : ℕ) (s x : List ℕ) → Among (suc a) hi (suc k) x → T (le
 later a hi k s [] r l = omega arith
 later a hi k s (b ∷ x) r l = elim (lex-cases b a x s l) [ inl h ↦ omega arith | inr h ↦ omega arith ]
 
-rank-from : (m lo hi : ℕ) (s : List ℕ) → lo + m ≡ hi → Rising lo hi s → countBefore s (subsetsFrom m lo (length s)) ≡ indexFrom m lo s
+-- the subsets before s, s itself, and those after it
+rank-from : (m lo hi : ℕ) (s : List ℕ) → lo + m ≡ hi → Rising lo hi s → countBefore s (subsetsFrom m lo (length s)) + 1 + waysAbove hi s ≡ choose m (length s)
 rank-from zero lo hi [] e r = refl
-rank-from zero lo hi (a ∷ s) e r = refl
+rank-from zero lo hi (a ∷ s) e r = absurd (omega (arith, r .0, r .1))
 rank-from (suc m) lo hi [] e r = refl
 rank-from (suc m) lo hi (a ∷ s) e r =
-    count-append (a ∷ s) (map (λ t. lo ∷ t) with-lo) without ∙ go (eq-or-lt-of-le (r .0)) (rank-from m (suc lo) hi s (omega arith)) (rank-from m (suc lo) hi (a ∷ s) (omega arith))
+    ap (λ (n : ℕ). n + 1 + waysAbove hi (a ∷ s)) (count-append (a ∷ s) (map (λ t. lo ∷ t) with-lo) without)
+    ∙ go (eq-or-lt-of-le (r .0)) (rank-from m (suc lo) hi s (omega arith)) (rank-from m (suc lo) hi (a ∷ s) (omega arith))
   where
     with-lo : List (List ℕ)
     with-lo = subsetsFrom m (suc lo) (length s)
@@ -65,18 +67,24 @@ rank-from (suc m) lo hi (a ∷ s) e r =
     none : (x : List ℕ) → List·Memᴰ x without → T (lexLt x (lo ∷ s)) → ⊥
     none x p = later lo hi (length s) s x (sound m (suc lo) hi (suc (length s)) x (omega arith) p)
 
-    go : (lo ≡ a) ⊎ (lo < a) → (Rising (suc lo) hi s → countBefore s with-lo ≡ indexFrom m (suc lo) s) → (Rising (suc lo) hi (a ∷ s) → countBefore (a ∷ s) without ≡ indexFrom m (suc lo) (a ∷ s))
-        → countBefore (a ∷ s) (map (λ t. lo ∷ t) with-lo) + countBefore (a ∷ s) without ≡ indexFrom (suc m) lo (a ∷ s)
-    go (inl q) f g = rw (eq-eqb a lo (sym q), ← q)
-        (ap₂ _+_ (count-same lo s with-lo ∙ f (subst (λ (z : ℕ). Rising (suc z) hi s) (sym q) (r .2))) (count-none (lo ∷ s) without none) ∙ add-zero (indexFrom m (suc lo) s))
-    go (inr q) f g = rw (ne-eqb a lo (λ z. omega arith))
-        (ap₂ _+_ (count-less lo a s with-lo q ∙ length-subsets m (suc lo) (length s)) (g (q, r .1, r .2)))
+    go : (lo ≡ a) ⊎ (lo < a)
+        → (Rising (suc lo) hi s → countBefore s with-lo + 1 + waysAbove hi s ≡ choose m (length s))
+        → (Rising (suc lo) hi (a ∷ s) → countBefore (a ∷ s) without + 1 + waysAbove hi (a ∷ s) ≡ choose m (suc (length s)))
+        → countBefore (a ∷ s) (map (λ t. lo ∷ t) with-lo) + countBefore (a ∷ s) without + 1 + waysAbove hi (a ∷ s) ≡ choose m (length s) + choose m (suc (length s))
+    go (inl q) f g =
+        let left : hi - 1 - lo ≡ m = omega arith in
+        rw (← q, left)
+        (omega (arith, count-same lo s with-lo, f (subst (λ (z : ℕ). Rising (suc z) hi s) (sym q) (r .2)), count-none (lo ∷ s) without none))
+    go (inr q) f g = omega (arith, count-less lo a s with-lo q, length-subsets m (suc lo) (length s), g (q, r .1, r .2))
 
 -- ---- from each to the next
 
 module _ (B k : ℕ) where
   total : length (subsets B k) ≡ choose B k
   total = length-subsets B 0 k
+
+  whole : (s : List ℕ) → Subset B k s → rankOf B s + 1 + waysAbove B s ≡ choose B k
+  whole s h = rank-from B 0 B s (zero-add B) (h .rising) ∙ ap (choose B) (h .size)
 
   -- the list's length, at the place of s
   split : (pre : List (List ℕ)) (s : List ℕ) (rest : List (List ℕ)) → subsets B k ≡ pre ++ (s ∷ rest) → length pre + suc (length rest) ≡ choose B k
@@ -133,7 +141,8 @@ module _ (B k : ℕ) where
   ranks-here : Ranks B k
   ranks-here = record {
     total = total;
-    index = λ s h. rank-from B 0 B s (zero-add B) (h .rising);
+    index = λ s h. omega (arith, whole s h);
+    whole = whole;
     below = below;
     first = first;
     next = next;

@@ -1,6 +1,6 @@
 -- The rank of a subset: the number of k-subsets before it.
 use mathlib.Core.Path.{_≡_}
-use Prim.Native.Nat.{ℕ, zero, suc, _+_, _^_, _≤_, _<_}
+use Prim.Native.Nat.{ℕ, suc, _+_, _-_, _^_, _≤_, _<_}
 use mathlib.Core.Bool.{cond}
 use mathlib.Core.List.{List, [], _∷_}
 use lib.Dec.{T, leb, eqb}
@@ -20,16 +20,17 @@ countBefore s (t ∷ ts) = cond (lexLt t s) 1 0 + countBefore s ts
 abbrev pub rankOf : ℕ → List ℕ → ℕ
 rankOf B s = countBefore s (subsets B (length s))
 
--- what `compute_index` adds up over the m positions from lo on: choose(positions left, bits left) for each that lies before the last bit and is not chosen
-abbrev pub indexFrom : ℕ → ℕ → List ℕ → ℕ
-indexFrom zero lo s = 0
-indexFrom (suc m) lo [] = 0
-indexFrom (suc m) lo (a ∷ s) = cond (eqb a lo) (indexFrom m (suc lo) s) (choose m (length s) + indexFrom m (suc lo) (a ∷ s))
+-- over the bits of s, the ways to pick that many bits, itself and those after it, from the positions above it: those after s that first differ from it there
+abbrev pub waysAbove : ℕ → List ℕ → ℕ
+waysAbove B [] = 0
+waysAbove B (a ∷ s) = choose (B - 1 - a) (suc (length s)) + waysAbove B s
 
--- What ranks are to be: the sum above is the rank, and the k-subsets in their order have the ranks 0, 1, .., choose B k - 1
+-- What ranks are to be: the number of all k-subsets, less one, less the ways above the bits (nothing is cut off at 0, by `whole`), and 0, 1, .., choose B k - 1
+-- in their order
 pub record Ranks (B k : ℕ) : Type 0 where
   pub total : length (subsets B k) ≡ choose B k
-  pub index : (s : List ℕ) → Subset B k s → rankOf B s ≡ indexFrom B 0 s
+  pub index : (s : List ℕ) → Subset B k s → rankOf B s ≡ choose B k - 1 - waysAbove B s
+  pub whole : (s : List ℕ) → Subset B k s → rankOf B s + 1 + waysAbove B s ≡ choose B k
   pub below : (s : List ℕ) → Subset B k s → rankOf B s < choose B k
   pub first : k ≤ B → rankOf B (numbersFrom 0 k) ≡ 0
   pub next : (s t : List ℕ) → Subset B k s → Next B k s t → rankOf B t ≡ suc (rankOf B s)

@@ -15,22 +15,17 @@ pub struct Ranked {
     pub rank: usize,
 }
 
-// For each position before the last bit that is not chosen, the number of subsets that go on with it instead.
+// The number of all subsets, less one, less those after this one: for each chosen bit the ways to pick that many bits, itself and those after it, from the
+// positions above it.
 pub fn rank_of(block_size: usize, bits: &[u32]) -> usize
     requires { ⌜ («block_size» < 4294967296) × (choose «block_size» (length (now bits)) ≤ 2 ^ 32) × Subset «block_size» (length (now bits)) (now bits) ⌝ }
     ensures { λ r. ⌜ r ≡ rankOf «block_size» (now (bits .entry)) ⌝ }
 {
-    let mut result: usize = 0;
-    let mut i: usize = 0;
+    let mut result: usize = choose_up_to(block_size, bits.len()) - 1;
     let mut j: usize = 0;
     while j < bits.len() {
-        if i < bits[j] as usize {
-            result += choose_up_to(block_size - i - 1, bits.len() - j - 1);
-            i += 1;
-        } else {
-            j += 1;
-            i += 1;
-        }
+        result -= choose_up_to(block_size - 1 - bits[j] as usize, bits.len() - j);
+        j += 1;
     }
     result
 }
