@@ -1,74 +1,30 @@
-//! Times of an earlier commit's searches, feeds, evaluations and texts, of ours and of the reference's, in turn in one run, on drawn bytes. The earlier library
-//! is linked beside ours with other names for its calls (differential/run); they are declared here as commit 1037adc has them, and have to be changed for
-//! another. There the high bit always comes first: start takes no bit order, a sampler has 3 numbers and a finding 24, and no text has a low_first.
+//! Times of an earlier commit's ranks, feeds, evaluations, texts and searches, of ours and of the reference's, in turn in one run, on drawn bytes. The earlier
+//! library is linked beside ours with other names for its calls, and its own Rust declares them (differential/run). Where a call has other arguments there
+//! than here, its lines below say so.
 
-use crate::bench::seconds;
+use crate::bench::{drawn_subsets, seconds};
 use crate::ours;
 use crate::recordings::{numbers, numbers_in, store_size};
 use answers::run::sound;
 use answers::{
-    brute_force, brute_force_threads, evaluate_histogram, reversed, to_json, transform_data, with_low_first, Draws, Finding, Histogram,
+    brute_force, brute_force_threads, compute_index, evaluate_histogram, to_json, transform_data, with_low_first, Draws, Finding, Histogram,
 };
+use earlier::calls;
 use std::hint::black_box;
 
-extern "C" {
-    fn before_jimrawel_start(
-        block_size: usize,
-        words: *mut u64, words_len: usize,
-        sampler: *mut u64, sampler_len: usize,
-    ) -> u32;
-
-    fn before_jimrawel_feed(
-        sampler: *mut u64, sampler_len: usize,
-        words: *mut u64, words_len: usize,
-        piece: *const u8, piece_len: usize,
-    ) -> u32;
-
-    fn before_jimrawel_brute_force_threads(
-        sampler: *const u64, sampler_len: usize,
-        words: *const u64, words_len: usize,
-        first: usize, end: usize,
-        k: usize,
-        bins: *mut u32, bins_len: usize,
-        order: *mut u32, order_len: usize,
-        finding: *mut u64, finding_len: usize,
-    ) -> u32;
-
-    fn before_jimrawel_brute_force(
-        sampler: *const u64, sampler_len: usize,
-        words: *const u64, words_len: usize,
-        first: usize, end: usize,
-        k: usize,
-        lower: *mut u32, lower_len: usize,
-        upper: *mut u32, upper_len: usize,
-        bins: *mut u32, bins_len: usize,
-        order: *mut u32, order_len: usize,
-        finding: *mut u64, finding_len: usize,
-    ) -> u32;
-
-    fn before_jimrawel_evaluate_histogram(
-        finding: *const u64, finding_len: usize,
-        order: *const u32, order_len: usize,
-        bytes: *const u8, bytes_len: usize,
-        scratch: *mut u32, scratch_len: usize,
-        evaluated: *mut u64, evaluated_len: usize,
-    ) -> u32;
-
-    fn before_jimrawel_write_finding(
-        finding: *const u64, finding_len: usize,
-        order: *const u32, order_len: usize,
-        scratch: *mut u32, scratch_len: usize,
-        out: *mut u8, out_len: usize,
-        length: *mut usize,
-    ) -> u32;
-
-    fn before_jimrawel_read_finding(
-        text: *const u8, text_len: usize,
-        order: *mut u32, order_len: usize,
-        scratch: *mut u32, scratch_len: usize,
-        finding: *mut u64, finding_len: usize,
-    ) -> u32;
+/// The calls of that commit, of which some are not made.
+#[allow(dead_code)]
+mod earlier {
+    mod raw {
+        include!(concat!(env!("JIMRAWEL_BEFORE"), "/raw.rs"));
+    }
+    pub mod calls {
+        include!(concat!(env!("JIMRAWEL_BEFORE"), "/calls.rs"));
+    }
 }
+
+/// Block size and width of the ranks.
+const RANKS: [(usize, usize); 9] = [(8, 2), (8, 8), (64, 3), (64, 6), (128, 4), (512, 3), (4_096, 2), (24, 20), (32, 16)];
 
 /// Block size, width, bytes and the searches of one turn. First short recordings, of which some have just more than 4,096 blocks.
 const SEARCHES: [(usize, usize, usize, usize); 27] = [
@@ -117,11 +73,24 @@ fn compare(name: &str, calls: usize, before: &mut dyn FnMut(), now: &mut dyn FnM
     println!("| {name} | {times} | {:.2} | {:.2} | {:.2} | {turns} |", before / reference, now / reference, now / before);
 }
 
-/// A finding of the earlier commit with its bit order, as it has one now.
-fn high_first(earlier: [u64; 24]) -> [u64; 25] {
-    let mut numbers = [0; 25];
-    numbers[..24].copy_from_slice(&earlier);
-    numbers
+/// Ranks of a thousand drawn subsets.
+fn ranks(block_size: usize, k: usize) {
+    let (there, here) = drawn_subsets(block_size, k);
+    let mut sums = [0; 3];
+    let [before, now, reference] = &mut sums;
+    let rank = |bits: &Vec<u32>| {
+        let mut rank = 0;
+        assert_eq!(calls::compute_index(block_size, bits, &mut rank), 0);
+        rank
+    };
+    compare(
+        &format!("B {block_size}, k {k}, 1,000 ranks"),
+        10,
+        &mut || *before = black_box(&here).iter().map(rank).sum(),
+        &mut || *now = black_box(&here).iter().map(|bits| ours::rank(block_size, bits).1).sum(),
+        &mut || *reference = black_box(&there).iter().map(|bits| compute_index(bits, block_size)).sum(),
+    );
+    assert_eq!(sums, [sums[0]; 3]);
 }
 
 fn searches(block_size: usize, k: usize, bytes: usize, searches: usize) {
@@ -136,65 +105,46 @@ fn searches(block_size: usize, k: usize, bytes: usize, searches: usize) {
     let room = || [vec![0_u32; size], vec![0; size], vec![0; m], vec![0; m]];
     let [mut lower, mut upper, mut bins, mut order] = room();
     let [mut earlier_lower, mut earlier_upper, mut earlier_bins, mut earlier_order] = room();
-    let (mut earlier, mut found, mut expected) = ([0_u64; 24], None, None);
+    let (mut earlier, mut found, mut expected) = ([0; 25], None, None);
     let name = format!("B {block_size}, k {k}, {bytes} bytes");
 
     compare(
         &format!("{name}, layered"),
         searches,
         &mut || {
-            let refusal = unsafe {
-                before_jimrawel_brute_force(
-                    sampler.as_ptr(), 3, words.as_ptr(), words.len(), 0, blocks, k, earlier_lower.as_mut_ptr(), size, earlier_upper.as_mut_ptr(), size,
-                    earlier_bins.as_mut_ptr(), m, earlier_order.as_mut_ptr(), m, earlier.as_mut_ptr(), 24,
-                )
-            };
-            assert_eq!(refusal, 0);
+            let stores: [&mut [u32]; 2] = [&mut earlier_lower, &mut earlier_upper];
+            assert_eq!(calls::brute_force(&sampler, &words, 0..blocks, k, stores, &mut earlier_bins, &mut earlier_order, &mut earlier), 0);
         },
         &mut || found = Some(ours::layered(&sampler, &words, 0..blocks, k, [&mut lower, &mut upper], &mut bins, &mut order)),
         &mut || expected = brute_force(&rows, block_size, k),
     );
-    assert_eq!(found.take().unwrap().finding, high_first(earlier));
+    assert_eq!(found.take().unwrap().finding, earlier);
     assert_eq!(expected.take().unwrap().z.to_bits(), earlier[3]);
     compare(
         &format!("{name}, direct"),
         searches,
-        &mut || {
-            let refusal = unsafe {
-                before_jimrawel_brute_force_threads(
-                    sampler.as_ptr(), 3, words.as_ptr(), words.len(), 0, blocks, k,
-                    earlier_bins.as_mut_ptr(), m, earlier_order.as_mut_ptr(), m, earlier.as_mut_ptr(), 24,
-                )
-            };
-            assert_eq!(refusal, 0);
-        },
+        &mut || assert_eq!(calls::brute_force_threads(&sampler, &words, 0..blocks, k, &mut earlier_bins, &mut earlier_order, &mut earlier), 0),
         &mut || found = Some(ours::direct(&sampler, &words, 0..blocks, k, &mut bins, &mut order)),
         &mut || expected = brute_force_threads(&rows, block_size, k, 1),
     );
-    assert_eq!(found.unwrap().finding, high_first(earlier));
+    assert_eq!(found.unwrap().finding, earlier);
     assert_eq!(expected.unwrap().z.to_bits(), earlier[3]);
     assert!(bins == earlier_bins && order == earlier_order);
 }
 
-/// A start and a feed of all bytes, ours in both bit orders, each beside the earlier one with the high bit first.
+/// A start and a feed of all bytes, in both bit orders; the reference's high first.
 fn feeds(block_size: usize, bytes: usize, feeds: usize) {
     let data = Draws::new(1).bytes(bytes);
     let room = || vec![0_u64; block_size * (bytes / (block_size / 8)).div_ceil(64)];
     let (mut earlier, mut words) = (room(), room());
-    let (mut earlier_sampler, mut sampler) = ([0; 3], [0; 4]);
+    let (mut earlier_sampler, mut sampler) = ([0; 4], [0; 4]);
     for (low_first, name) in [(false, ""), (true, ", low first")] {
         compare(
             &format!("B {block_size}, {bytes} bytes, feeding{name}"),
             feeds,
             &mut || {
-                let (sampler, data) = (earlier_sampler.as_mut_ptr(), black_box(&data));
-                let refusals = unsafe {
-                    [
-                        before_jimrawel_start(block_size, earlier.as_mut_ptr(), earlier.len(), sampler, 3),
-                        before_jimrawel_feed(sampler, 3, earlier.as_mut_ptr(), earlier.len(), data.as_ptr(), data.len()),
-                    ]
-                };
-                assert_eq!(refusals, [0; 2]);
+                assert_eq!(calls::start(block_size, low_first, &mut earlier, &mut earlier_sampler), 0);
+                assert_eq!(calls::feed(&mut earlier_sampler, &mut earlier, black_box(&data)), 0);
             },
             &mut || {
                 assert_eq!(ours::start(block_size, low_first, &mut words, &mut sampler), 0);
@@ -202,40 +152,30 @@ fn feeds(block_size: usize, bytes: usize, feeds: usize) {
             },
             &mut || drop(black_box(transform_data(black_box(&data), block_size))),
         );
-        assert_eq!((&sampler[..3], sampler[3]), (&earlier_sampler[..], low_first as u64));
-        assert_eq!(words == earlier, !low_first);
+        assert!(sampler == earlier_sampler && words == earlier);
     }
 }
 
-/// Ours in both bit orders, each beside the earlier one with the high bit first.
+/// Evaluations in both bit orders; the reference's high first.
 fn evaluations(block_size: usize, k: usize, bytes: usize, evaluations: usize) {
     let draws = &mut Draws::new(4);
     let (bits, order, data) = (draws.subset(block_size, k), draws.shuffled(1 << k), draws.bytes(bytes));
     let finding = Finding { block_size, bits, order, division: 1, z: 0.0 };
     let order: Vec<u32> = finding.order.iter().map(|&bin| bin as u32).collect();
     let (mut earlier_counts, mut counts) = (vec![0_u32; 1 << k], vec![0; 1 << k]);
-    let mut before = |data: &[u8]| {
-        let mut evaluated = [0; 3];
-        let refusal = unsafe {
-            before_jimrawel_evaluate_histogram(
-                numbers(&finding).as_ptr(), 24, order.as_ptr(), order.len(), data.as_ptr(), data.len(),
-                earlier_counts.as_mut_ptr(), 1 << k, evaluated.as_mut_ptr(), 3,
-            )
-        };
-        assert_eq!(refusal, 0);
-        evaluated
-    };
     for (low_first, name) in [(false, ""), (true, ", low first")] {
         let (mut earlier, mut now) = ([0; 3], [0; 3]);
         compare(
             &format!("B {block_size}, k {k}, {bytes} bytes, evaluation{name}"),
             evaluations,
-            &mut || earlier = before(black_box(&data)),
+            &mut || {
+                let numbers = numbers_in(&finding, low_first);
+                assert_eq!(calls::evaluate_histogram(&numbers, &order, black_box(&data), &mut earlier_counts, &mut earlier), 0);
+            },
             &mut || now = ours::evaluate(&numbers_in(&finding, low_first), &order, black_box(&data), &mut counts).1,
             &mut || drop(black_box(evaluate_histogram(&finding, black_box(&data)))),
         );
-        assert_eq!(now == earlier, !low_first);
-        assert_eq!(now, before(&if low_first { reversed(&data) } else { data.clone() }));
+        assert!(now == earlier && counts == earlier_counts);
     }
 }
 
@@ -251,43 +191,32 @@ fn texts(k: usize, texts: usize) {
     compare(
         &format!("a finding of width {k}, written"),
         texts,
-        &mut || {
-            let refusal = unsafe {
-                before_jimrawel_write_finding(
-                    black_box(&numbers).as_ptr(), 24, order.as_ptr(), m, earlier_scratch.as_mut_ptr(), m, earlier_out.as_mut_ptr(), room, &mut earlier_length,
-                )
-            };
-            assert_eq!(refusal, 0);
-        },
+        &mut || assert_eq!(calls::write_finding(black_box(&numbers), &order, &mut earlier_scratch, &mut earlier_out, &mut earlier_length), 0),
         &mut || length = ours::write(black_box(&numbers), &order, &mut scratch, &mut out).1,
         &mut || drop(black_box(black_box(&histogram).write())),
     );
     let there = to_json(&finding);
-    assert!(earlier_out[..earlier_length] == *there.as_bytes() && out[..length] == *with_low_first(&there, false).as_bytes());
+    let text = with_low_first(&there, false);
+    assert!(earlier_out[..earlier_length] == *text.as_bytes() && out[..length] == *text.as_bytes());
 
     let (mut earlier_order, mut read_order) = (vec![0_u32; m], vec![0; m]);
-    let (mut earlier, mut read) = ([0; 24], [0; 25]);
+    let (mut earlier, mut read) = ([0; 25], [0; 25]);
     compare(
         &format!("a finding of width {k}, read"),
         texts,
-        &mut || {
-            let text = black_box(&earlier_out[..earlier_length]);
-            let refusal = unsafe {
-                before_jimrawel_read_finding(
-                    text.as_ptr(), text.len(), earlier_order.as_mut_ptr(), m, earlier_scratch.as_mut_ptr(), m, earlier.as_mut_ptr(), 24,
-                )
-            };
-            assert_eq!(refusal, 0);
-        },
-        &mut || read = ours::read(black_box(&out[..length]), &mut read_order, &mut scratch).1,
+        &mut || assert_eq!(calls::read_finding(black_box(text.as_bytes()), &mut earlier_order, &mut earlier_scratch, &mut earlier), 0),
+        &mut || read = ours::read(black_box(text.as_bytes()), &mut read_order, &mut scratch).1,
         &mut || black_box(Histogram::from_slice(black_box(there.as_bytes()))).validate(),
     );
-    assert!(read == high_first(earlier) && read_order == earlier_order && read_order == order);
+    assert!(read == earlier && read_order == earlier_order && read_order == order);
 }
 
 pub fn run() {
     println!("| Call | before, µs | now, µs | reference, µs | before / reference | now / reference | now / before | turns |");
     println!("|---|---|---|---|---|---|---|---|");
+    for (block_size, k) in RANKS {
+        ranks(block_size, k);
+    }
     for (block_size, bytes, turn) in FEEDS {
         feeds(block_size, bytes, turn);
     }

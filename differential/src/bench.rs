@@ -4,7 +4,7 @@ use crate::ours;
 use crate::recordings::{numbers, numbers_in, store_size};
 use answers::run::sound;
 use answers::{
-    brute_force, brute_force_threads, evaluate_histogram, from_bins, reversed, to_json, transform_data, with_low_first, Draws, Finding, Histogram,
+    brute_force, brute_force_threads, compute_index, evaluate_histogram, from_bins, reversed, to_json, transform_data, with_low_first, Draws, Finding, Histogram,
 };
 use std::{hint::black_box, time::Instant};
 
@@ -17,6 +17,9 @@ pub fn seconds(run: &mut dyn FnMut()) -> f64 {
 /// The most that a call may take with the low bit first, beside the high bit first in the same run.
 const LOW_FIRST: f64 = 1.1;
 
+/// The most that a rank may take beside the reference's at B 512, k 3 and at B 4,096, k 2.
+const RANK: f64 = 0.5;
+
 /// The least time of ours and of the reference's over a few runs in turn: more runs where one is short. Answers their ratio. Of a row with the low bit first
 /// the other side is ours too, with the high bit first and the same bytes.
 fn compare(name: &str, ours: &mut dyn FnMut(), reference: &mut dyn FnMut()) -> f64 {
@@ -27,7 +30,7 @@ fn compare(name: &str, ours: &mut dyn FnMut(), reference: &mut dyn FnMut()) -> f
         all += times[0] + times[1];
         runs += 1;
     }
-    println!("| {name} | {:.2} | {:.2} | {:.2} |", best[0] * 1e3, best[1] * 1e3, best[0] / best[1]);
+    println!("| {name} | {:.3} | {:.3} | {:.2} |", best[0] * 1e3, best[1] * 1e3, best[0] / best[1]);
     best[0] / best[1]
 }
 
@@ -88,6 +91,27 @@ fn evaluations(block_size: usize, k: usize, bytes: usize) -> f64 {
     assert_eq!(high[2], expected.unwrap().z.to_bits());
     let ratio = compare(&format!("{name}, low first beside high first"), &mut || low = evaluate(true, &data), &mut || high = evaluate(false, &data));
     assert_eq!(low, evaluate(false, &reversed(&data)));
+    ratio
+}
+
+/// A thousand drawn subsets, as the reference takes them and as ours does.
+pub fn drawn_subsets(block_size: usize, k: usize) -> (Vec<Vec<usize>>, Vec<Vec<u32>>) {
+    let draws = &mut Draws::new(5);
+    let there: Vec<Vec<usize>> = (0..1_000).map(|_| draws.subset(block_size, k)).collect();
+    let here = there.iter().map(|bits| bits.iter().map(|&bit| bit as u32).collect()).collect();
+    (there, here)
+}
+
+/// Ranks of drawn subsets. Answers the ratio.
+fn ranks(block_size: usize, k: usize) -> f64 {
+    let (there, here) = drawn_subsets(block_size, k);
+    let (mut sum, mut expected) = (0, 0);
+    let ratio = compare(
+        &format!("B {block_size}, k {k}, 1,000 ranks"),
+        &mut || sum = black_box(&here).iter().map(|bits| ours::rank(block_size, bits).1).sum(),
+        &mut || expected = black_box(&there).iter().map(|bits| compute_index(bits, block_size)).sum(),
+    );
+    assert_eq!(sum, expected);
     ratio
 }
 
@@ -154,10 +178,15 @@ pub fn run() {
     for k in [4, 8, 12, 16, 18, 20] {
         ranking(k);
     }
+    for (block_size, k) in [(8, 2), (8, 8), (64, 3), (64, 6), (128, 4), (24, 20), (32, 16)] {
+        ranks(block_size, k);
+    }
+    let rank = [(512, 3), (4096, 2)].map(|(block_size, k)| ranks(block_size, k));
     exchange(16);
     let sizes = [(8, 8, 1_000_000), (128, 2, 1_000_000), (256, 2, 10_000_000), (128, 3, 1_000_000), (64, 4, 1_000_000)];
     let evaluation = sizes.map(|(block_size, k, bytes)| evaluations(block_size, k, bytes));
     let feeding = sizes.map(|(block_size, k, bytes)| searches(block_size, k, bytes));
-    let most = |ratios: [f64; 5]| ratios.into_iter().fold(0.0, f64::max);
-    println!("low first beside high first: feeding at most {:.2}, evaluation at most {:.2}; the bound is {LOW_FIRST}", most(feeding), most(evaluation));
+    let most = |ratios: &[f64]| ratios.iter().copied().fold(0.0, f64::max);
+    println!("low first beside high first: feeding at most {:.2}, evaluation at most {:.2}; the bound is {LOW_FIRST}", most(&feeding), most(&evaluation));
+    println!("a rank at B 512, k 3 and at B 4,096, k 2 beside the reference's: at most {:.2}; the bound is {RANK}", most(&rank));
 }

@@ -1,7 +1,8 @@
 //! Our calls against the reference's, on drawn cases: `differential [SEED [CASES]]`. Or on recordings that take too long to be drawn: `differential widths`,
 //! `differential capacity`, `differential wide WIDTH [reference]`. Or recordings searched in many stretches: `differential stretches [SEED [CASES]]`. Or
-//! findings as text: `differential exchange [SEED [CASES]]`. Or what is known to differ: `differential differences`. Or their times: `differential bench`.
-//! Or beside those of an earlier commit: `differential before`. Or the stack that our calls take: `differential stack`.
+//! findings as text: `differential exchange [SEED [CASES]]`. Or ranks of all subsets in turn: `differential ranks`. Or what is known to differ:
+//! `differential differences`. Or their times: `differential bench`. Or beside those of an earlier commit: `differential before`. Or the stack that our calls
+//! take: `differential stack`.
 
 mod account;
 #[cfg(feature = "before")]
@@ -14,6 +15,7 @@ mod exchange;
 mod judging;
 mod ours;
 mod rankings;
+mod ranks;
 mod recordings;
 mod stack;
 mod stretches;
@@ -35,6 +37,7 @@ fn main() {
         Some("capacity") => return capacity::run(),
         Some("differences") => return differences::run(),
         Some("exchange") => return exchange::run(seed(args.get(1)), cases(args.get(2), 100_000)),
+        Some("ranks") => return ranks::run(),
         Some("stack") => return stack::run(),
         Some("stretches") => return stretches::run(seed(args.get(1)), cases(args.get(2), 20_000)),
         Some("wide") => return wide::run(args.get(1).expect("the width"), args.get(2).map(String::as_str)),
