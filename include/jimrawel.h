@@ -72,7 +72,7 @@ enum jimrawel_refusal {
     JIMRAWEL_WIDTH_ABOVE_BLOCK = 3,  /* k is above B */
     JIMRAWEL_BAD_SAMPLER = 4,        /* its B is invalid, its number of words is not the lent one, or T is above capacity */
     JIMRAWEL_FULL = 5,               /* the piece would go past capacity */
-    JIMRAWEL_SHORT_STORE = 6,        /* W is above 2^32, or a store has fewer than W entries */
+    JIMRAWEL_SHORT_STORE = 6,        /* the sum of the layered search is above 2^32, or its store shorter */
     JIMRAWEL_SHORT_BUFFER = 7,       /* bins, order or scratch have fewer than 2^k entries */
     JIMRAWEL_FEW_BLOCKS = 8,         /* fewer than two blocks */
     JIMRAWEL_BITS_NOT_RISING = 9,    /* the bits do not strictly increase */
@@ -122,15 +122,16 @@ uint32_t jimrawel_brute_force_threads(
     const uint64_t *sampler, size_t sampler_len, const uint64_t *words, size_t words_len, size_t first, size_t end, size_t k,
     uint32_t *bins, size_t bins_len, uint32_t *order, size_t order_len, uint64_t *finding, size_t finding_len);
 
-/* The layered search: the same answer with one count for each set, the others by subtraction from the sets of one bit fewer.
-     lower, upper  two stores of at least W entries each, W being the largest C(B, d) x 2^d for d from 1 to max(1, k - 1).
-                   Their first W entries are used and left with anything in them.
+/* The layered search: the same answer with one count for each set of up to k bits, the bins of a set by subtraction from those of its subsets.
+     store  at least as many entries as the sum of C(B, d) for d from 1 to max(1, k - 1): 349,632 at B 128, k 4. Afterwards so many hold, for
+            each set of 1 to max(1, k - 1) bits, how many blocks of the stretch have all its bits set: first the sets of one bit, then those of
+            two and so on, and of as many bits in lexicographic order (jimrawel_compute_index).
      The rest as for the direct search.
    Refusals: 25, 27, 4, 18, 2, 3, 6, 7. */
 uint32_t jimrawel_brute_force(
     const uint64_t *sampler, size_t sampler_len, const uint64_t *words, size_t words_len, size_t first, size_t end, size_t k,
-    uint32_t *lower, size_t lower_len, uint32_t *upper, size_t upper_len,
-    uint32_t *bins, size_t bins_len, uint32_t *order, size_t order_len, uint64_t *finding, size_t finding_len);
+    uint32_t *store, size_t store_len, uint32_t *bins, size_t bins_len, uint32_t *order, size_t order_len,
+    uint64_t *finding, size_t finding_len);
 
 /* The rank of a set of bits: how many sets of as many bits come before it in lexicographic order.
      bits  the bits, all of them; their number is the width.

@@ -7,7 +7,7 @@ use crate::ours;
 use crate::recordings::{numbers, numbers_in, store_size};
 use answers::run::sound;
 use answers::{
-    brute_force, brute_force_threads, compute_index, evaluate_histogram, to_json, transform_data, with_low_first, Draws, Finding, Histogram,
+    brute_force, brute_force_threads, choose, compute_index, evaluate_histogram, to_json, transform_data, with_low_first, Draws, Finding, Histogram,
 };
 use earlier::calls;
 use std::hint::black_box;
@@ -21,6 +21,11 @@ mod earlier {
     pub mod calls {
         include!(concat!(env!("JIMRAWEL_BEFORE"), "/calls.rs"));
     }
+}
+
+/// The entries of each of that commit's two stores: the largest C(B, d) x 2^d for d from 1 to max(1, k - 1).
+fn earlier_store_size(block_size: usize, k: usize) -> usize {
+    (1..=(k - 1).max(1)).map(|d| choose(block_size, d) << d).max().unwrap()
 }
 
 /// Block size and width of the ranks.
@@ -101,10 +106,10 @@ fn searches(block_size: usize, k: usize, bytes: usize, searches: usize) {
     assert_eq!(ours::start(block_size, false, &mut words, &mut sampler), 0);
     assert_eq!(ours::feed(&mut sampler, &mut words, &data), 0);
     let rows = transform_data(&data, block_size);
-    let (size, m) = (store_size(block_size, k).unwrap(), 1 << k);
-    let room = || [vec![0_u32; size], vec![0; size], vec![0; m], vec![0; m]];
-    let [mut lower, mut upper, mut bins, mut order] = room();
-    let [mut earlier_lower, mut earlier_upper, mut earlier_bins, mut earlier_order] = room();
+    let (size, earlier_size, m) = (store_size(block_size, k).unwrap(), earlier_store_size(block_size, k), 1 << k);
+    let (mut store, mut bins, mut order) = (vec![0_u32; size], vec![0_u32; m], vec![0_u32; m]);
+    let (mut earlier_lower, mut earlier_upper) = (vec![0_u32; earlier_size], vec![0_u32; earlier_size]);
+    let (mut earlier_bins, mut earlier_order) = (bins.clone(), order.clone());
     let (mut earlier, mut found, mut expected) = ([0; 25], None, None);
     let name = format!("B {block_size}, k {k}, {bytes} bytes");
 
@@ -112,10 +117,11 @@ fn searches(block_size: usize, k: usize, bytes: usize, searches: usize) {
         &format!("{name}, layered"),
         searches,
         &mut || {
+            // Two stores there.
             let stores: [&mut [u32]; 2] = [&mut earlier_lower, &mut earlier_upper];
             assert_eq!(calls::brute_force(&sampler, &words, 0..blocks, k, stores, &mut earlier_bins, &mut earlier_order, &mut earlier), 0);
         },
-        &mut || found = Some(ours::layered(&sampler, &words, 0..blocks, k, [&mut lower, &mut upper], &mut bins, &mut order)),
+        &mut || found = Some(ours::layered(&sampler, &words, 0..blocks, k, &mut store, &mut bins, &mut order)),
         &mut || expected = brute_force(&rows, block_size, k),
     );
     assert_eq!(found.take().unwrap().finding, earlier);

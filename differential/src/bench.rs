@@ -54,13 +54,12 @@ fn searches(block_size: usize, k: usize, bytes: usize) -> f64 {
     let ratio = compare(&format!("{name}, feeding, low first beside high first"), &mut low, &mut || feed(false, &mut words, &mut sampler));
 
     let rows = transform_data(&data, block_size);
-    let size = store_size(block_size, k).unwrap();
-    let (mut lower, mut upper) = (vec![0; size], vec![0; size]);
+    let mut store = vec![0; store_size(block_size, k).unwrap()];
     let (mut bins, mut order) = (vec![0; 1 << k], vec![0; 1 << k]);
     let (mut found, mut expected) = (None, None);
     compare(
         &format!("{name}, layered"),
-        &mut || found = Some(ours::layered(&sampler, &words, 0..blocks, k, [&mut lower, &mut upper], &mut bins, &mut order)),
+        &mut || found = Some(ours::layered(&sampler, &words, 0..blocks, k, &mut store, &mut bins, &mut order)),
         &mut || expected = brute_force(&rows, block_size, k),
     );
     assert_eq!(found.take().unwrap().finding[3], expected.take().unwrap().z.to_bits());

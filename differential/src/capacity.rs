@@ -34,7 +34,7 @@ pub fn run() {
             let first = if low_first { ", low bit first" } else { "" };
             println!("B {block_size}, bytes of kind {bytes}, k {k}: {words} words, {} pieces{first}", pieces.len());
             let case = Recording {
-                block_size, words, pieces, stretch: 0..BLOCKS, k, bins: 1, order: 0, stores: [0, 1], stale: false, low_first, mark: None,
+                block_size, words, pieces, stretch: 0..BLOCKS, k, bins: 1, order: 0, store: (k % 2) as isize, stale: false, low_first, mark: None,
             };
             run.compare("recordings", |searches| case.check(searches));
             if k == 2 {

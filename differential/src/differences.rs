@@ -184,16 +184,19 @@ fn widths() -> Checked {
 
 fn stores() -> Checked {
     let (sampler, words) = sampled(8, &[&[0, 255]]);
-    let refusal = |entries: usize| {
-        let (mut lower, mut upper) = (vec![0; entries], vec![0; 1792]);
-        ours::layered(&sampler, &words, 0..2, 8, [&mut lower, &mut upper], &mut [0; 256], &mut [0; 256]).refusal
+    let search = |entries: usize| {
+        let mut store = vec![5; entries];
+        (ours::layered(&sampler, &words, 0..2, 8, &mut store, &mut [0; 256], &mut [0; 256]).refusal, store)
     };
-    is("stores of 1,791 and 1,792", [1791, 1792].map(refusal), [6, 0])?;
+    is("a store of 253", search(253), (6, vec![5; 253]))?;
+    // One block of the two has every bit.
+    is("a store of 255", search(255), (0, [vec![1; 254], vec![5]].concat()))?;
+    is("a store of 254", search(254), (0, vec![1; 254]))?;
     is("the reference", bottomup(&[0, 255], 8, 8, 0).is_ok(), true)?;
-    // C(128, 5) x 2^5 is above 2^32: refused with any stores. The reference would need more memory than there is.
+    // C(128, 6) is above 2^32: refused with any store. The reference would need more memory than there is.
     let (sampler, words) = sampled(128, &[&[0; 16]]);
-    let layered = ours::layered(&sampler, &words, 0..1, 6, [&mut [0; 9], &mut [0; 9]], &mut [0; 64], &mut [0; 64]);
-    is("W above 2^32", layered.refusal, 6)
+    let layered = ours::layered(&sampler, &words, 0..1, 7, &mut [0; 9], &mut [0; 128], &mut [0; 128]);
+    is("a sum above 2^32", layered.refusal, 6)
 }
 
 fn buffers() -> Checked {
@@ -227,10 +230,10 @@ fn other_stretches() -> Checked {
         let (mut bins, mut order) = ([5; 4], [5; 4]);
         let answer = ours::direct(&sampler, &words, stretch.clone(), 2, &mut bins, &mut order);
         is("direct", (answer.refusal, answer.finding, bins, order), (18, [0; 25], [5; 4], [5; 4]))?;
-        let (mut lower, mut upper) = ([5; 16], [5; 16]);
-        let answer = ours::layered(&sampler, &words, stretch, 2, [&mut lower, &mut upper], &mut bins, &mut order);
+        let mut store = [5; 8];
+        let answer = ours::layered(&sampler, &words, stretch, 2, &mut store, &mut bins, &mut order);
         is("layered", (answer.refusal, answer.finding, bins, order), (18, [0; 25], [5; 4], [5; 4]))?;
-        is("stores", (lower, upper), ([5; 16], [5; 16]))?;
+        is("store", store, [5; 8])?;
     }
     Ok(())
 }
@@ -251,15 +254,15 @@ fn other_bit_orders() -> Checked {
     let (lent, lent_words) = (sampler, words.clone());
     is("feed", (ours::feed(&mut sampler, &mut words, &[255]), sampler, words == lent_words), (27, lent, true))?;
     is("blocks", ours::blocks(&sampler), 0)?;
-    let (mut bins, mut order, mut lower, mut upper) = ([5; 4], [5; 4], [5; 16], [5; 16]);
+    let (mut bins, mut order, mut store) = ([5; 4], [5; 4], [5; 8]);
     let answers = [
         ours::direct(&sampler, &words, 0..2, 2, &mut bins, &mut order),
-        ours::layered(&sampler, &words, 0..2, 2, [&mut lower, &mut upper], &mut bins, &mut order),
+        ours::layered(&sampler, &words, 0..2, 2, &mut store, &mut bins, &mut order),
     ];
     for answer in answers {
         is("search", (answer.refusal, answer.finding), (27, [ours::LENT; 25]))?;
     }
-    is("buffers and stores", (bins, order, lower, upper), ([5; 4], [5; 4], [5; 16], [5; 16]))?;
+    is("buffers and store", (bins, order, store), ([5; 4], [5; 4], [5; 8]))?;
     let mut numbers = numbers(&finding(&[0, 1, 2, 3], 1));
     numbers[24] = 2;
     let (mut scratch, mut out) = ([5; 4], [5; 99]);

@@ -22,10 +22,10 @@ pub fn direct(sampler: &[u64], words: &[u64], stretch: Range<usize>, k: usize, b
 
 pub fn layered(
     sampler: &[u64], words: &[u64], stretch: Range<usize>, k: usize,
-    stores: [&mut [u32]; 2], bins: &mut [u32], order: &mut [u32],
+    store: &mut [u32], bins: &mut [u32], order: &mut [u32],
 ) -> Searched {
     let mut finding = [LENT; 25];
-    let refusal = calls::brute_force(sampler, words, stretch, k, stores, bins, order, &mut finding);
+    let refusal = calls::brute_force(sampler, words, stretch, k, store, bins, order, &mut finding);
     Searched { refusal, finding }
 }
 

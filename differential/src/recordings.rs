@@ -4,7 +4,9 @@ use crate::account::Account;
 use crate::case::{fewer, same, Checked, Compared};
 use crate::ours::{self, Searched};
 use answers::run::Recording;
-use answers::{bottomup, capacity_bytes, choose, evaluate_histogram, high_first, reversed, transform_data, valid, Finding};
+use answers::{
+    bottomup, capacity_bytes, choose, evaluate_histogram, high_first, multi_eval, reversed, stored_place, stored_sets, transform_data, valid, Draws, Finding, Rows,
+};
 use std::ops::Range;
 
 pub const LENT: u32 = 0xABCD;
@@ -17,9 +19,12 @@ fn layered_work(block_size: usize, k: usize) -> usize {
     (1..=k).map(|d| (choose(block_size, d) << d).saturating_mul(4 + block_size * (d - 1) / 4)).sum()
 }
 
-/// The entries of a store, where they are at most 2^32.
+/// How many words of rows may be counted for a store, a row's for each entry: where they are more, some of its counts are compared.
+const COUNTED: usize = 200_000_000;
+
+/// The entries that the store needs, where they are at most 2^32.
 pub fn store_size(block_size: usize, k: usize) -> Option<usize> {
-    let size = (1..=(k - 1).max(1)).map(|d| choose(block_size, d).saturating_mul(1 << d)).max().unwrap();
+    let size = (1..=(k - 1).max(1)).map(|d| choose(block_size, d)).fold(0, usize::saturating_add);
     (size <= 1 << 32).then_some(size)
 }
 
@@ -205,9 +210,8 @@ fn direct(case: &Recording, fed: &Sampled) -> Answer {
     Answer::by(case, |bins, order| ours::direct(&fed.sampler, &fed.words, case.stretch.clone(), case.k, bins, order))
 }
 
-fn layered(case: &Recording, fed: &Sampled, stores: &mut [Vec<u32>; 2]) -> Answer {
-    let [lower, upper] = stores;
-    Answer::by(case, |bins, order| ours::layered(&fed.sampler, &fed.words, case.stretch.clone(), case.k, [lower, upper], bins, order))
+fn layered(case: &Recording, fed: &Sampled, store: &mut [u32]) -> Answer {
+    Answer::by(case, |bins, order| ours::layered(&fed.sampler, &fed.words, case.stretch.clone(), case.k, store, bins, order))
 }
 
 /// `other` is the same recording with the high bit first and its bytes reversed, where the low bit comes first.
@@ -225,23 +229,68 @@ fn check_searches(case: &Recording, fed: &Sampled, other: Option<&Sampled>, bloc
         searches.add(entry("layered", expected), false);
         return Ok(());
     }
-    // Without a size the search is refused whatever the stores.
-    let size = size.unwrap_or(2);
-    let mut stores = case.stores.map(|more| vec![LENT; (size as isize + more) as usize]);
-    let by_layers = layered(case, fed, &mut stores);
+    // Without a size the search is refused whatever the store.
+    let draws = &mut of_case(case);
+    let lent = drawn_entries(draws, (size.unwrap_or(2) as isize + case.store) as usize);
+    let mut store = lent.clone();
+    let by_layers = layered(case, fed, &mut store);
     check_search(case, "layered", 0, expected, blocks, &by_layers)?;
-    for store in &stores {
-        let free = if by_layers.searched.refusal == 0 { size } else { 0 };
-        same("the rest of a store", &store[free..], &vec![LENT; store.len() - free][..])?;
+    let written = if expected == 0 { size.unwrap() } else { 0 };
+    same("a place of the store that is not as lent", (written..lent.len()).find(|&at| store[at] != lent[at]), None)?;
+    if expected == 0 {
+        check_counts(case, draws, blocks, &store[..written])?;
     }
     if found.searched.refusal == 0 && by_layers.searched.refusal == 0 {
         same("both searches' findings, counts and orders", &by_layers, &found)?;
     }
     if let Some(other) = other {
-        same("layered, low first, and high first of the reversed bytes", &by_layers.high_first(), &layered(case, other, &mut stores))?;
+        let mut there = lent;
+        same("layered, low first, and high first of the reversed bytes", &by_layers.high_first(), &layered(case, other, &mut there))?;
+        same("store, low first, and high first of the reversed bytes", store == there, true)?;
     }
     searches.add(entry("layered", expected), true);
     Ok(())
+}
+
+/// Draws that go by the case alone, so that it differs again where it has differed.
+fn of_case(case: &Recording) -> Draws {
+    let numbers = [case.block_size, case.k, case.words, case.taken(), case.stretch.start, case.stretch.end];
+    Draws::new(numbers.into_iter().fold(0, |seed, number| Draws::new(seed ^ number as u64).next()))
+}
+
+fn drawn_entries(draws: &mut Draws, entries: usize) -> Vec<u32> {
+    (0..entries).map(|_| draws.next() as u32).collect()
+}
+
+/// That a store holds, for each set of fewer bits, how many blocks have all of them set, as the reference counts them in its rows.
+fn check_counts(case: &Recording, draws: &mut Draws, blocks: &[u8], store: &[u32]) -> Checked {
+    let (block_size, k) = (case.block_size, case.k);
+    let rows = transform_data(blocks, block_size);
+    if store.len().saturating_mul(rows.row(0).len()) > COUNTED {
+        return drawn_sets(draws, block_size, k).iter().try_for_each(|bits| check_count(&rows, bits, store[stored_place(block_size, bits)]));
+    }
+    let mut places = 0;
+    for bits in stored_sets(block_size, k) {
+        check_count(&rows, &bits, store[places])?;
+        places += 1;
+    }
+    same("the store's size", store.len(), places)
+}
+
+fn check_count(rows: &Rows, bits: &[usize], count: u32) -> Checked {
+    let expected = multi_eval(bits, rows);
+    if count as usize == expected { Ok(()) } else { same(&format!("the store's count of bits {bits:?}"), count as usize, expected) }
+}
+
+/// Of each size the first set, the last and some drawn ones, a few hundred in all.
+fn drawn_sets(draws: &mut Draws, block_size: usize, k: usize) -> Vec<Vec<usize>> {
+    let widest = (k - 1).max(1);
+    let mut sets = Vec::new();
+    for d in 1..=widest {
+        sets.extend([(0..d).collect(), (block_size - d..block_size).collect()]);
+        sets.extend((0..400 / widest).map(|_| draws.subset(block_size, d)));
+    }
+    sets
 }
 
 /// What a search is entered as.
@@ -266,7 +315,7 @@ fn refusal(case: &Recording, layered: bool) -> u32 {
         2
     } else if case.k > case.block_size {
         3
-    } else if layered && (store_size(case.block_size, case.k).is_none() || case.stores.iter().any(|&more| more < 0)) {
+    } else if layered && (store_size(case.block_size, case.k).is_none() || case.store < 0) {
         6
     } else if case.bins < 0 || case.order < 0 {
         7

@@ -31,5 +31,5 @@ fn drawn(block_size: usize, k: usize) -> Recording {
     let held = recording(draws, [5, 0, 3][k % 3], 70 * block_size / 8 + block_size / 16);
     let (words, pieces) = (2 * block_size + 3, cut(draws, &held, 4));
     let low_first = (block_size / 8 + k) % 2 == 0;
-    Recording { block_size, words, pieces, stretch: 0..70, k, bins: 0, order: 1, stores: [1, 0], stale: false, low_first, mark: None }
+    Recording { block_size, words, pieces, stretch: 0..70, k, bins: 0, order: 1, store: (k % 3) as isize, stale: false, low_first, mark: None }
 }

@@ -1,5 +1,5 @@
 /* A recording fed in two pieces, searched both ways, its later blocks alone too, the finding evaluated on other bytes and on none, written as text and read
-   again; then a recording with the low bit first. Prints what it finds. */
+   again; then a recording with the low bit first. Prints what it finds, and in how many blocks each bit is set. */
 #include "../jimrawel.h"
 
 #include <inttypes.h>
@@ -10,7 +10,7 @@
 #define B 8
 #define K 2
 #define BINS (1 << K)
-#define W (B * 2) /* the largest C(8, d) x 2^d for d from 1 to 1 */
+#define STORE B /* the sum of C(8, d) for d from 1 to 1 */
 
 static double score(uint64_t bits) {
     double z;
@@ -38,16 +38,26 @@ static void print_finding(const uint64_t *finding, const uint32_t *order) {
     printf(", division %" PRIu64 ", z %g\n", finding[JIMRAWEL_DIVISION], score(finding[JIMRAWEL_Z]));
 }
 
+/* With K 2 the layered search leaves one count for each bit. */
+static void print_counts(const uint32_t *store) {
+    printf("blocks with each bit set");
+    for (size_t i = 0; i < STORE; i++) printf(" %" PRIu32, store[i]);
+    printf("\n");
+}
+
 /* Both searches of the blocks from first to before end, which find the same, or are refused with the same number; printed where found. */
 static uint32_t search(const uint64_t *sampler, const uint64_t *words, size_t first, size_t end, uint32_t *order, uint64_t *finding) {
     uint64_t layered[JIMRAWEL_FINDING];
-    uint32_t lower[W], upper[W], bins[BINS];
+    uint32_t store[STORE], bins[BINS];
     uint32_t refusal = jimrawel_brute_force(
-        sampler, JIMRAWEL_SAMPLER, words, B, first, end, K, lower, W, upper, W, bins, BINS, order, BINS, layered, JIMRAWEL_FINDING);
+        sampler, JIMRAWEL_SAMPLER, words, B, first, end, K, store, STORE, bins, BINS, order, BINS, layered, JIMRAWEL_FINDING);
     uint32_t direct = jimrawel_brute_force_threads(
         sampler, JIMRAWEL_SAMPLER, words, B, first, end, K, bins, BINS, order, BINS, finding, JIMRAWEL_FINDING);
     if (direct != refusal || memcmp(finding, layered, sizeof layered) != 0) exit(failed("the searches differ", direct));
-    if (direct == JIMRAWEL_OK) print_finding(finding, order);
+    if (direct == JIMRAWEL_OK) {
+        print_finding(finding, order);
+        print_counts(store);
+    }
     return direct;
 }
 

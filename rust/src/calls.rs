@@ -46,20 +46,18 @@ pub fn brute_force_threads(
     }
 }
 
-/// `stores` are the lower and the upper.
+/// `store` afterwards begins with the counts of all sets of 1 to max(1, k - 1) bits.
 pub fn brute_force(
     sampler: &[u64], words: &[u64], stretch: Range<usize>, k: usize,
-    stores: [&mut [u32]; 2], bins: &mut [u32], order: &mut [u32], finding: &mut [u64],
+    store: &mut [u32], bins: &mut [u32], order: &mut [u32], finding: &mut [u64],
 ) -> u32 {
-    let [lower, upper] = stores;
     unsafe {
         raw::jimrawel_brute_force(
             sampler.as_ptr(), sampler.len(),
             words.as_ptr(), words.len(),
             stretch.start, stretch.end,
             k,
-            lower.as_mut_ptr(), lower.len(),
-            upper.as_mut_ptr(), upper.len(),
+            store.as_mut_ptr(), store.len(),
             bins.as_mut_ptr(), bins.len(),
             order.as_mut_ptr(), order.len(),
             finding.as_mut_ptr(), finding.len(),

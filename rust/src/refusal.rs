@@ -12,7 +12,7 @@ pub enum Refusal {
     Sampler = 4,
     /// The piece would go past capacity.
     Full = 5,
-    /// A layer store would need more than 2^32 entries, or is too short.
+    /// The layered search's store would need more than 2^32 entries, or is too short.
     Store = 6,
     /// A buffer is too short.
     Buffer = 7,

@@ -55,7 +55,7 @@ impl Sampler {
         self.search_direct_in(0..self.blocks(), k)
     }
 
-    /// The same by subtraction from layer to layer: faster, with two stores that are allocated for it.
+    /// The same by subtraction from layer to layer: faster, with a store that is allocated for it.
     pub fn search_layered(&self, k: usize) -> Result<Finding, Refusal> {
         self.search_layered_in(0..self.blocks(), k)
     }
@@ -72,9 +72,8 @@ impl Sampler {
     pub fn search_layered_in(&self, stretch: Range<usize>, k: usize) -> Result<Finding, Refusal> {
         let Sampler { numbers, words } = self;
         let (mut bins, mut order, mut finding) = buffers(k);
-        let size = store_size(self.block_size(), k);
-        let (mut lower, mut upper) = (vec![0; size], vec![0; size]);
-        accepted(calls::brute_force(numbers, words, stretch, k, [&mut lower, &mut upper], &mut bins, &mut order, &mut finding))?;
+        let mut store = vec![0; store_size(self.block_size(), k)];
+        accepted(calls::brute_force(numbers, words, stretch, k, &mut store, &mut bins, &mut order, &mut finding))?;
         Ok(Finding::found(finding, order, bins))
     }
 }
@@ -85,15 +84,38 @@ fn buffers(k: usize) -> (Vec<u32>, Vec<u32>, [u64; 25]) {
     (vec![0; bins], vec![0; bins], [0; 25])
 }
 
-/// The entries of a store, the largest C(B, d) x 2^d for d from 1 to max(1, k - 1); 0 where the search is refused anyway.
+/// The entries of the store, the sum of C(B, d) for d from 1 to max(1, k - 1); 0 where the search is refused anyway.
 fn store_size(block_size: usize, k: usize) -> usize {
     if !(1..=20.min(block_size)).contains(&k) {
         return 0;
     }
-    let (mut largest, mut choose) = (0_u128, 1_u128);
+    let (mut sum, mut choose) = (0, 1_u64);
     for d in 1..=(k - 1).max(1) {
-        choose = choose * (block_size - d + 1) as u128 / d as u128;
-        largest = largest.max(choose << d);
+        // No product is above 2^32 x 4,096, since a sum above 2^32 ends it.
+        choose = choose * (block_size - d + 1) as u64 / d as u64;
+        sum += choose;
+        if sum > 1 << 32 {
+            return 0;
+        }
     }
-    if largest <= 1 << 32 { largest as usize } else { 0 }
+    sum as usize
+}
+
+#[cfg(test)]
+mod tests {
+    use super::store_size;
+
+    #[test]
+    fn store_sizes() {
+        for (block_size, k, size) in [
+            (8, 1, 8), (8, 2, 8), (8, 3, 36), (8, 7, 246), (8, 8, 254), (16, 16, 65_534), (24, 20, 16_764_264), (128, 4, 349_632), (128, 6, 275_584_032),
+            (4096, 2, 4_096), (4096, 3, 8_390_656),
+        ] {
+            assert_eq!(store_size(block_size, k), size, "B {block_size}, k {k}");
+        }
+        // Above 2^32, by a little and past any word; no width.
+        for (block_size, k) in [(128, 7), (4096, 4), (4096, 20), (8, 0), (8, 9), (4096, 21), (8, usize::MAX)] {
+            assert_eq!(store_size(block_size, k), 0, "B {block_size}, k {k}");
+        }
+    }
 }

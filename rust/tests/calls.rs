@@ -48,10 +48,9 @@ fn other_stretches() {
             assert_eq!(sampler.search_layered_in(first..end, k), Err(Refusal::Stretch), "{first}..{end}");
         }
     }
-    let (words, mut bins, mut order, mut stores, mut finding) = ([0; 16], [9; 4], [9; 4], [[9; 32]; 2], [9; 25]);
-    let [lower, upper] = &mut stores;
-    assert_eq!(calls::brute_force(&[16, 16, 21, 0], &words, 0..11, 2, [lower, upper], &mut bins, &mut order, &mut finding), Refusal::Stretch.number());
-    assert_eq!((bins, order, stores, finding), ([9; 4], [9; 4], [[9; 32]; 2], [0; 25]));
+    let (words, mut bins, mut order, mut store, mut finding) = ([0; 16], [9; 4], [9; 4], [9; 16], [9; 25]);
+    assert_eq!(calls::brute_force(&[16, 16, 21, 0], &words, 0..11, 2, &mut store, &mut bins, &mut order, &mut finding), Refusal::Stretch.number());
+    assert_eq!((bins, order, store, finding), ([9; 4], [9; 4], [9; 16], [0; 25]));
     assert_eq!(calls::brute_force_threads(&[16, 15, 21, 0], &words, 0..11, 2, &mut bins, &mut order, &mut finding), Refusal::Sampler.number());
     assert_eq!((calls::blocks(&[16, 16, 21, 1]), calls::blocks(&[16, 16, 21]), calls::blocks(&[0, 16, 21, 0])), (10, 0, 0));
 }
@@ -97,12 +96,11 @@ fn other_bit_orders() {
             let (mut sampler, mut words) = (lent, [9; 16]);
             assert_eq!(calls::feed(&mut sampler, &mut words, &[0xFF; 3]), Refusal::BitOrder.number());
             assert_eq!((sampler, words, calls::blocks(&sampler)), (lent, [9; 16], 0));
-            let (mut bins, mut order, mut stores, mut finding) = ([9; 4], [9; 4], [[9; 32]; 2], [9; 25]);
+            let (mut bins, mut order, mut store, mut finding) = ([9; 4], [9; 4], [9; 16], [9; 25]);
             let (bins, order) = (&mut bins[..room], &mut order[..room]);
             assert_eq!(calls::brute_force_threads(&sampler, &words, stretch.clone(), k, bins, order, &mut finding), Refusal::BitOrder.number());
-            let [lower, upper] = &mut stores;
-            assert_eq!(calls::brute_force(&sampler, &words, stretch, k, [lower, upper], bins, order, &mut finding), Refusal::BitOrder.number());
-            assert_eq!((&bins[..], &order[..], stores, finding), (&[9; 4][..room], &[9; 4][..room], [[9; 32]; 2], [9; 25]));
+            assert_eq!(calls::brute_force(&sampler, &words, stretch, k, &mut store, bins, order, &mut finding), Refusal::BitOrder.number());
+            assert_eq!((&bins[..], &order[..], store, finding), (&[9; 4][..room], &[9; 4][..room], [9; 16], [9; 25]));
         }
         for (block_size, width) in [(8, 2), (12, 0)] {
             let finding = [[block_size, width, 1, 0, 1, 2].as_slice(), &[0; 18], &[mark]].concat();
@@ -119,6 +117,36 @@ fn other_bit_orders() {
     assert_eq!(calls::validate(&[2; 24], &[], &mut []), Refusal::ShortRecord.number());
 }
 
+/// Every set of 1 to 7 bits of a block of 8, by size, then in lexicographic order.
+fn narrower_sets() -> Vec<Vec<u32>> {
+    let mut sets: Vec<Vec<u32>> = (1..255).map(|set| (0..8).filter(|bit| set >> bit & 1 == 1).collect()).collect();
+    sets.sort_by_key(|bits| (bits.len(), bits.clone()));
+    sets
+}
+
+#[test]
+fn stores() {
+    let bytes = [0x5A, 0x0F, 0xFF, 0x81, 0x8F];
+    let (mut sampler, mut words, mut store) = ([0; 4], [0; 8], [9; 256]);
+    assert_eq!(calls::start(8, false, &mut words, &mut sampler), 0);
+    assert_eq!(calls::feed(&mut sampler, &mut words, &bytes), 0);
+    let search = |store: &mut [u32]| calls::brute_force(&sampler, &words, 1..5, 8, store, &mut [0; 256], &mut [0; 256], &mut [0; 25]);
+    assert_eq!((search(&mut []), search(&mut store[..253])), (Refusal::Store.number(), Refusal::Store.number()));
+    assert_eq!(store, [9; 256]);
+    let with = |bits: &Vec<u32>| bytes[1..].iter().filter(|&byte| bits.iter().all(|bit| byte >> (7 - bit) & 1 == 1)).count() as u32;
+    let counts: Vec<u32> = narrower_sets().iter().map(with).collect();
+    for entries in [254, 256] {
+        assert_eq!(search(&mut store[..entries]), 0);
+        assert_eq!((&store[..254], &store[254..]), (&counts[..], &[9, 9][..]));
+    }
+
+    // That a store is long enough shows where a buffer, which is looked at after it, is not.
+    let mut store = vec![9; 349_632];
+    let search = |store: &mut [u32]| calls::brute_force(&[128, 128, 0, 0], &[0; 128], 0..0, 4, store, &mut [0; 15], &mut [0; 16], &mut [0; 25]);
+    assert_eq!((search(&mut store[1..]), search(&mut store)), (Refusal::Store.number(), Refusal::Buffer.number()));
+    assert!(store.iter().all(|&entry| entry == 9));
+}
+
 #[test]
 fn refusals() {
     let sampler = Sampler::start(8, HighFirst, 1).unwrap();
@@ -128,7 +156,9 @@ fn refusals() {
     assert_eq!(sampler.search_direct(0).unwrap_err(), Refusal::Width);
     assert_eq!(sampler.search_layered(21).unwrap_err(), Refusal::Width);
     assert_eq!(sampler.search_layered(9).unwrap_err(), Refusal::WidthAboveBlock);
-    assert_eq!(Sampler::start(4096, HighFirst, 1).unwrap().search_layered(5).unwrap_err(), Refusal::Store);
+    for k in [4, 20] {
+        assert_eq!(Sampler::start(4096, HighFirst, 1).unwrap().search_layered(k).unwrap_err(), Refusal::Store);
+    }
     assert_eq!(Finding::checked(8, HighFirst, &[1, 1], &[0, 1, 2, 3], 1), Err(Refusal::BitsNotRising));
     assert_eq!(Finding::checked(8, HighFirst, &[1, 8], &[0, 1, 2, 3], 1), Err(Refusal::BitOutside));
     assert_eq!(Finding::checked(8, HighFirst, &[1, 2], &[0, 1, 2], 1), Err(Refusal::OrderLength));

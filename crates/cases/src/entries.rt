@@ -1,6 +1,7 @@
 // Entries of lent buffers. Every buffer is filled with 99 before it is lent.
 ghost use Prim.Native.Nat.{_≤_};
 use crate::printing::print;
+use std::num::wrapping_add_u64;
 
 // Prints the first `shown` entries.
 pub fn print_first(entries: &[u32], shown: usize) {
@@ -34,4 +35,23 @@ fn differs(entry: u32) -> usize
     ensures { λ r. ⌜ r ≤ 1 ⌝ }
 {
     if entry == 99 { 0 } else { 1 }
+}
+
+// The sum of the first m entries, each times its place from 1 on, modulo 2^64. From the last on the sums of sums are that.
+pub fn weighed(entries: &[u32], m: usize) -> u64 {
+    let mut sum: u64 = 0;
+    let mut all: u64 = 0;
+    let mut i = entries.len();
+    while i > 0 {
+        i -= 1;
+        if i < m {
+            sum = wrapping_add_u64(sum, wide(entries[i]));
+            all = wrapping_add_u64(all, sum);
+        }
+    }
+    all
+}
+
+fn wide(entry: u32) -> u64 {
+    entry as u64
 }

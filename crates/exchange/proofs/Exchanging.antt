@@ -159,7 +159,7 @@ searches-exchange B low ws pieces answers s ws′ acquired =
     record {
       direct = λ first end k bins order r bins′ order′ S z.
           passes B low held first end k (r .finding) bins′ order′ (claim .direct first end k bins order r bins′ order′ S .best z) (agree .direct first end k bins order r bins′ order′ S z);
-      layered = λ first end k lower upper bins order r lower′ upper′ bins′ order′ S z.
-          passes B low held first end k (r .finding) bins′ order′ (claim .layered first end k lower upper bins order r lower′ upper′ bins′ order′ S .best z)
-          (agree .layered first end k lower upper bins order r lower′ upper′ bins′ order′ S z);
+      layered = λ first end k store bins order r store′ bins′ order′ S z.
+          passes B low held first end k (r .finding) bins′ order′ (claim .layered first end k store bins order r store′ bins′ order′ S .0 .best z)
+          (agree .layered first end k store bins order r store′ bins′ order′ S z);
     }

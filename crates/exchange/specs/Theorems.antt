@@ -68,8 +68,8 @@ pub record SearchesPass (s : Sampler) (ws′ : List ℕ) : Type 0 where
       (first end k : ℕ) (bins order : List ℕ) (r : Searched) (bins′ order′ : List ℕ) → DirectSearch s ws′ first end k bins order r bins′ order′ → r .refusal ≡ 0
       → Passes k (r .finding) (take (2 ^ k) order′)
   pub layered :
-      (first end k : ℕ) (lower upper bins order : List ℕ) (r : Searched) (lower′ upper′ bins′ order′ : List ℕ)
-      → LayeredSearch s ws′ first end k lower upper bins order r lower′ upper′ bins′ order′ → r .refusal ≡ 0
+      (first end k : ℕ) (store bins order : List ℕ) (r : Searched) (store′ bins′ order′ : List ℕ)
+      → LayeredSearch s ws′ first end k store bins order r store′ bins′ order′ → r .refusal ≡ 0
       → Passes k (r .finding) (take (2 ^ k) order′)
 
 -- Theorem: after every such start and all such feeds.

@@ -114,20 +114,20 @@ pub direct-unread :
 direct-unread sampler ws first end k bins order finding r e some = record { made = λ m. absurd (some (e ∙ m)); refused = λ h. (e, refl, refl, refl) }
 
 pub layered-made :
-    (sampler ws : List ℕ) (first end k : ℕ) (lower upper bins order finding : List ℕ) (given : Sampler) (a : Searched) (lower′ upper′ bins′ order′ finding′ : List ℕ)
+    (sampler ws : List ℕ) (first end k : ℕ) (store bins order finding : List ℕ) (given : Sampler) (a : Searched) (store′ bins′ order′ finding′ : List ℕ)
     → searchUnread sampler (length finding) ≡ 0
     → given ≡ samplerOf sampler
-    → LayeredSearch given ws first end k lower upper bins order a lower′ upper′ bins′ order′
+    → LayeredSearch given ws first end k store bins order a store′ bins′ order′
     → finding′ ≡ written (findingNumbers (a .finding)) finding
-    → LayeredCall sampler ws first end k lower upper bins order finding (a .refusal) lower′ upper′ bins′ order′ finding′
-layered-made sampler ws first end k lower upper bins order finding given a lower′ upper′ bins′ order′ finding′ room g d w =
-    let s : LayeredSearch (samplerOf sampler) ws first end k lower upper bins order a lower′ upper′ bins′ order′ =
-    subst (λ (x : Sampler). LayeredSearch x ws first end k lower upper bins order a lower′ upper′ bins′ order′) g d in
+    → LayeredCall sampler ws first end k store bins order finding (a .refusal) store′ bins′ order′ finding′
+layered-made sampler ws first end k store bins order finding given a store′ bins′ order′ finding′ room g d w =
+    let s : LayeredSearch (samplerOf sampler) ws first end k store bins order a store′ bins′ order′ =
+    subst (λ (x : Sampler). LayeredSearch x ws first end k store bins order a store′ bins′ order′) g d in
     record {
       made = λ h. (
         record {
           search = record { answered = refl; counted = s .search .counted; ordered = s .search .ordered };
-          kept = s .kept;
+          stored = s .stored;
         },
         answered a _ finding finding′ (s .search .answered) w,
       );
@@ -135,10 +135,10 @@ layered-made sampler ws first end k lower upper bins order finding given a lower
     }
 
 pub layered-unread :
-    (sampler ws : List ℕ) (first end k : ℕ) (lower upper bins order finding : List ℕ) (r : ℕ) → r ≡ searchUnread sampler (length finding) → (r ≡ 0 → ⊥)
-    → LayeredCall sampler ws first end k lower upper bins order finding r lower upper bins order finding
-layered-unread sampler ws first end k lower upper bins order finding r e some =
-    record { made = λ m. absurd (some (e ∙ m)); refused = λ h. (e, refl, refl, refl, refl, refl) }
+    (sampler ws : List ℕ) (first end k : ℕ) (store bins order finding : List ℕ) (r : ℕ) → r ≡ searchUnread sampler (length finding) → (r ≡ 0 → ⊥)
+    → LayeredCall sampler ws first end k store bins order finding r store bins order finding
+layered-unread sampler ws first end k store bins order finding r e some =
+    record { made = λ m. absurd (some (e ∙ m)); refused = λ h. (e, refl, refl, refl, refl) }
 
 -- ---- judging
 

@@ -67,19 +67,19 @@ pub record DirectCall (sampler ws : List ℕ) (first end k : ℕ) (bins order fi
   pub refused : (searchUnread sampler (length finding) ≡ 0 → ⊥) → (r ≡ searchUnread sampler (length finding)) × (bins′ ≡ bins) × (order′ ≡ order) × (finding′ ≡ finding)
 
 -- what the layered search answers
-abbrev pub layeredAnswer : Sampler → List ℕ → ℕ → ℕ → ℕ → List ℕ → List ℕ → List ℕ → List ℕ → Searched
-layeredAnswer s ws first end k lower upper bins order =
-    stretchAnswer (layeredRefusal s (length ws) first end k (length lower) (length upper) (length bins) (length order)) s ws first end k
+abbrev pub layeredAnswer : Sampler → List ℕ → ℕ → ℕ → ℕ → List ℕ → List ℕ → List ℕ → Searched
+layeredAnswer s ws first end k store bins order =
+    stretchAnswer (layeredRefusal s (length ws) first end k (length store) (length bins) (length order)) s ws first end k
 
 -- `brute_force`, in the same way
-pub record LayeredCall (sampler ws : List ℕ) (first end k : ℕ) (lower upper bins order finding : List ℕ) (r : ℕ) (lower′ upper′ bins′ order′ finding′ : List ℕ) : Type 0 where
+pub record LayeredCall (sampler ws : List ℕ) (first end k : ℕ) (store bins order finding : List ℕ) (r : ℕ) (store′ bins′ order′ finding′ : List ℕ) : Type 0 where
   pub made :
       searchUnread sampler (length finding) ≡ 0
-      → LayeredSearch (samplerOf sampler) ws first end k lower upper bins order (layeredAnswer (samplerOf sampler) ws first end k lower upper bins order) lower′ upper′ bins′ order′
-      × Answered (layeredAnswer (samplerOf sampler) ws first end k lower upper bins order) finding r finding′
+      → LayeredSearch (samplerOf sampler) ws first end k store bins order (layeredAnswer (samplerOf sampler) ws first end k store bins order) store′ bins′ order′
+      × Answered (layeredAnswer (samplerOf sampler) ws first end k store bins order) finding r finding′
   pub refused :
       (searchUnread sampler (length finding) ≡ 0 → ⊥)
-      → (r ≡ searchUnread sampler (length finding)) × (lower′ ≡ lower) × (upper′ ≡ upper) × (bins′ ≡ bins) × (order′ ≡ order) × (finding′ ≡ finding)
+      → (r ≡ searchUnread sampler (length finding)) × (store′ ≡ store) × (bins′ ≡ bins) × (order′ ≡ order) × (finding′ ≡ finding)
 
 -- `validate`, the finding read from the slice
 pub record CheckCall (finding order scratch : List ℕ) (r : ℕ) (scratch′ : List ℕ) : Type 0 where

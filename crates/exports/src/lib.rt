@@ -115,13 +115,12 @@ pub extern "C" fn jimrawel_brute_force(
     first: usize,
     end: usize,
     k: usize,
-    lower: &mut [u32],
-    upper: &mut [u32],
+    store: &mut [u32],
     bins: &mut [u32],
     order: &mut [u32],
     finding: &mut [u64],
 ) -> u32
-    ensures { λ r. ⌜ LayeredCall (now (sampler .entry)) (now (words .entry)) first end k (now (lower .entry)) (now (upper .entry)) (now (bins .entry)) (now (order .entry)) (now (finding .entry)) r (now (lower .exit)) (now (upper .exit)) (now (bins .exit)) (now (order .exit)) (now (finding .exit)) ⌝ }
+    ensures { λ r. ⌜ LayeredCall (now (sampler .entry)) (now (words .entry)) first end k (now (store .entry)) (now (bins .entry)) (now (order .entry)) (now (finding .entry)) r (now (store .exit)) (now (bins .exit)) (now (order .exit)) (now (finding .exit)) ⌝ }
 {
     let unread = search_unread(sampler, finding.len());
     if unread != 0 {
@@ -133,8 +132,7 @@ pub extern "C" fn jimrawel_brute_force(
         first,
         end,
         k,
-        lower,
-        upper,
+        store,
         bins,
         order,
     );

@@ -136,8 +136,8 @@ all-agree B low ws pieces answers s ws′ acquired =
       direct = λ first end k bins order r bins′ order′ S z.
           searched-agrees B low ws pieces answers s ws′ acquired _ first end k bins order r bins′ order′ S
           (λ e. direct-free s (length ws′) first end k (length bins) (length order) e .search) (claim .direct first end k bins order r bins′ order′ S .best z) z;
-      layered = λ first end k lower upper bins order r lower′ upper′ bins′ order′ S z.
+      layered = λ first end k store bins order r store′ bins′ order′ S z.
           searched-agrees B low ws pieces answers s ws′ acquired _ first end k bins order r bins′ order′ (S .search)
-          (λ e. layered-free s (length ws′) first end k (length lower) (length upper) (length bins) (length order) e .search)
-          (claim .layered first end k lower upper bins order r lower′ upper′ bins′ order′ S .best z) z;
+          (λ e. layered-free s (length ws′) first end k (length store) (length bins) (length order) e .search)
+          (claim .layered first end k store bins order r store′ bins′ order′ S .0 .best z) z;
     }

@@ -42,8 +42,8 @@ pub record SearchesAgree (B : ℕ) (ws : List ℕ) (pieces : List (List ℕ)) (s
       (first end k : ℕ) (bins order : List ℕ) (r : Searched) (bins′ order′ : List ℕ) → DirectSearch s ws′ first end k bins order r bins′ order′ → r .refusal ≡ 0
       → (scratch : ℕ) → 2 ^ k ≤ scratch → Agrees B (stretchBytes B (recording B (length ws) pieces) first end) k (r .finding) bins′ order′ scratch
   pub layered :
-      (first end k : ℕ) (lower upper bins order : List ℕ) (r : Searched) (lower′ upper′ bins′ order′ : List ℕ)
-      → LayeredSearch s ws′ first end k lower upper bins order r lower′ upper′ bins′ order′ → r .refusal ≡ 0
+      (first end k : ℕ) (store bins order : List ℕ) (r : Searched) (store′ bins′ order′ : List ℕ)
+      → LayeredSearch s ws′ first end k store bins order r store′ bins′ order′ → r .refusal ≡ 0
       → (scratch : ℕ) → 2 ^ k ≤ scratch → Agrees B (stretchBytes B (recording B (length ws) pieces) first end) k (r .finding) bins′ order′ scratch
 
 abbrev pub AllAgree : Type 0

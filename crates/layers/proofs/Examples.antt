@@ -1,8 +1,15 @@
--- The worked examples, computed.
+-- The worked examples hold.
 use mathlib.Core.Path.{refl}
-use Rattle.layers.specs.Size.{largestLayer, storeSize, storeRefusal}
-use Rattle.layers.specs.Examples.{StoresOfEight}
+use Rattle.counting.specs.Block.{binOf}
+use Rattle.counting.specs.Sample.{countIn}
+use Rattle.layers.specs.Store.{storeTo, sizeTo, storeRefusal}
+use Rattle.layers.specs.Settle.{chosen}
+use Rattle.layers.specs.Examples.{twoBlocks, StoreOfEight, StoreOfTwo}
 
-pub stores-of-eight : StoresOfEight
-unfolding storeSize largestLayer storeRefusal
-stores-of-eight = (refl, refl, refl, refl)
+pub store-of-eight : StoreOfEight
+unfolding sizeTo storeRefusal
+store-of-eight = (refl, refl, refl)
+
+pub store-of-two : StoreOfTwo
+unfolding storeTo sizeTo countIn binOf twoBlocks chosen
+store-of-two = (refl, refl, refl, refl, refl)

@@ -1,82 +1,67 @@
--- The size of the stores: each layer exact up to 2^32, the largest of them, and what a size that is not refused gives.
-use mathlib.Core.Path.{_≡_, refl, sym, ap, _∙_}
+-- The size of the store: the sum over the widths, exact up to 2^32, and what a store that is not refused has.
+use mathlib.Core.Path.{_≡_, refl, ap, _∙_}
 use mathlib.Core.Bool.{Bool, true, false, cond}
-use Prim.Native.Nat.{ℕ, zero, suc, _+_, _-_, _*_, _^_, _≤_, _<_, min, max}
+use Prim.Native.Nat.{ℕ, zero, suc, _+_, _-_, _^_, _≤_, _<_}
 use native.Mathlib.Omega.{arith}
-use native.Mathlib.Nat.{mul-le-mul-left, mul-le-mul-right, le-trans, min-eq-left, min-eq-right}
+use native.Mathlib.Numerals.{add-one}
 use native.Mathlib.Decide.{ℕ-discrete}
 use lib.Dec.{leb}
-use lib.Pow.{pow-pos, pow-mono}
 use borrow.Author.Tests.{leb-true, le-leb, lt-leb}
+use Rattle.subsets.specs.Subsets.{numbersFrom}
 use Rattle.subsets.specs.Choose.{choose, upTo, chooseUpTo}
-use Rattle.layers.specs.Layers.{layerSize}
-use Rattle.layers.specs.Size.{largestLayer, storeSize, storeRefusal, StoresSuffice}
+use Rattle.subsets.proofs.Ranking.{ranks}
+use Rattle.subsets.proofs.Visiting.{numbers-subset}
+use Rattle.layers.specs.Store.{sizeTo, widest, storeSize, storeRefusal, StoreSuffices}
 
--- ---- one layer
+-- ---- from one width to the next
 
--- a product of binomial and power, as the code has it
-pub product-fits : (B d c : ℕ) → d ≤ 20 → c ≡ chooseUpTo B d → c * 2 ^ d < 2 ^ 64
+pub size-next : (B d : ℕ) → sizeTo B (d + 1) ≡ sizeTo B d + choose B (d + 1)
+unfolding sizeTo
+size-next B d = rw add-one
+
+pub size-step : (B d : ℕ) → 1 ≤ d → sizeTo B d ≡ sizeTo B (d - 1) + choose B d
+size-step B d h =
+    let e : d - 1 + 1 ≡ d = omega arith in
+    omega (arith, size-next B (d - 1), ap (sizeTo B) e, ap (choose B) e)
+
+pub size-none : (B : ℕ) → sizeTo B 0 ≡ 0
+unfolding sizeTo
+size-none B = refl
+
+-- more widths, more entries
+pub size-grows : (B d m : ℕ) → d ≤ m → sizeTo B d ≤ sizeTo B m
+unfolding sizeTo
+size-grows B d zero h = let e : d ≡ 0 = omega arith in omega (arith, ap (sizeTo B) e)
+size-grows B d (suc m) h = go (ℕ-discrete d (suc m)) (size-grows B d m)
+  where
+    go : Dec (d ≡ suc m) → (d ≤ m → sizeTo B d ≤ sizeTo B m) → sizeTo B d ≤ sizeTo B m + choose B (suc m)
+    go (yes e) f = omega (arith, ap (sizeTo B) e)
+    go (no n) f = omega (arith, f (omega arith))
+
+-- a width that a block has has entries
+pub size-some : (B d : ℕ) → 1 ≤ d → d ≤ B → 1 ≤ sizeTo B d
+size-some B d pos h =
+    omega (arith, size-step B d pos, ranks B d .below (numbersFrom 0 d) (numbers-subset B d h))
+
+-- ---- the sum, as the code has it
+
+-- one width more, exact up to 2^32
+pub summed : (B d c s : ℕ) → c ≡ chooseUpTo B (d + 1) → upTo s ≡ upTo (sizeTo B d) → upTo (s + c) ≡ upTo (sizeTo B (d + 1))
 unfolding chooseUpTo
-product-fits B d c h e =
-    let l : 2 ^ d ≤ 2 ^ 20 = pow-mono h in
-    let m : c ≤ 2 ^ 32 + 1 = omega arith in
-    omega (arith, mul-le-mul-left c l, mul-le-mul-right (2 ^ 20) m)
+summed B d c s e f = omega (arith, size-next B d)
 
-above-stays : (c x p : ℕ) → 0 < p → c ≡ min x (2 ^ 32 + 1) → 2 ^ 32 < c * p → 2 ^ 32 < x * p
-above-stays c x p pos e h =
-    let l : c ≤ x = omega arith in
-    omega (arith, mul-le-mul-right p l)
-
-pub layer-above : (B d c : ℕ) → c ≡ chooseUpTo B d → 2 ^ 32 < c * 2 ^ d → 2 ^ 32 + 1 ≡ upTo (layerSize B d)
+pub small-choose : (B d c : ℕ) → c ≡ chooseUpTo B d → c ≤ 4294967297
 unfolding chooseUpTo
-layer-above B d c e h = sym (min-eq-right (above-stays c (choose B d) (2 ^ d) (pow-pos d) e h))
+small-choose B d c e = omega arith
 
-pub layer-exact : (B d c : ℕ) → c ≡ chooseUpTo B d → c * 2 ^ d ≤ 2 ^ 32 → c * 2 ^ d ≡ upTo (layerSize B d)
-unfolding chooseUpTo
-layer-exact B d c e h =
-    let one : 1 ≤ 2 ^ d = pow-pos d in
-    let small : c ≤ 2 ^ 32 = omega (arith, mul-le-mul-left c one) in
-    let same : c ≡ choose B d = omega arith in
-    let f : c * 2 ^ d ≡ layerSize B d = ap (λ (x : ℕ). x * 2 ^ d) same in
-    f ∙ sym (min-eq-left (omega arith))
-
--- ---- the largest
-
-largest-step : (B d : ℕ) → 1 ≤ d → largestLayer B d ≡ max (largestLayer B (d - 1)) (layerSize B d)
-unfolding largestLayer
-largest-step B zero h = absurd (omega arith)
-largest-step B (suc m) h = let e : suc m - 1 ≡ m = omega arith in rw e
-
--- the first layer alone
-pub first-layer : (B s : ℕ) → s ≡ upTo (layerSize B 1) → s ≡ upTo (largestLayer B 1)
-unfolding largestLayer
-first-layer B s e = omega arith
-
--- one layer more: where it is larger it takes the place of the largest so far, else that one stays
-module _ (B d l s : ℕ) (pos : 1 ≤ d) (sofar : l ≡ upTo (largestLayer B (d - 1))) (this : s ≡ upTo (layerSize B d)) where
-  more : upTo (largestLayer B (d + 1 - 1)) ≡ max l s
-  more =
-      let e : d + 1 - 1 ≡ d = omega arith in
-      let f : upTo (largestLayer B (d + 1 - 1)) ≡ upTo (max (largestLayer B (d - 1)) (layerSize B d)) =
-      ap (λ (x : ℕ). upTo (largestLayer B x)) e ∙ ap upTo (largest-step B d pos) in
-      omega arith
-
-  pub larger : l < s → s ≡ upTo (largestLayer B (d + 1 - 1))
-  larger h = omega (arith, more)
-
-  pub not-larger : s ≤ l → l ≡ upTo (largestLayer B (d + 1 - 1))
-  not-larger h = omega (arith, more)
-
-pub all-layers : (B k d l : ℕ) → 2 ≤ d → k ≤ d → d ≤ max 2 k → l ≡ upTo (largestLayer B (d - 1)) → l ≡ upTo (storeSize B k)
-unfolding storeSize
-all-layers B k d l two past within e =
-    let f : d - 1 ≡ max 1 (k - 1) = omega arith in
-    e ∙ ap (λ (x : ℕ). upTo (largestLayer B x)) f
+-- all widths
+pub all-widths : (B k d s : ℕ) → d ≡ widest k → upTo s ≡ upTo (sizeTo B d) → upTo s ≡ upTo (storeSize B k)
+all-widths B k d s e f = f ∙ ap (λ (x : ℕ). upTo (sizeTo B x)) e
 
 -- ---- the refusal, as the code has it
 
-module _ (B k a b w : ℕ) (is : w ≡ upTo (storeSize B k)) where
-  pub too-large : 2 ^ 32 < w → 6 ≡ storeRefusal B k a b
+module _ (B k a w : ℕ) (is : w ≡ upTo (storeSize B k)) where
+  pub too-large : 2 ^ 32 < w → 6 ≡ storeRefusal B k a
   unfolding storeRefusal
   too-large h = simp (lt-leb (storeSize B k) (2 ^ 32) (omega arith))
 
@@ -87,49 +72,23 @@ module _ (B k a b w : ℕ) (is : w ≡ upTo (storeSize B k)) where
     exact : w ≡ storeSize B k
     exact = omega arith
 
-    pub first-short : a < w → 6 ≡ storeRefusal B k a b
+    pub too-short : a < w → 6 ≡ storeRefusal B k a
     unfolding storeRefusal
-    first-short h = simp (le-leb (storeSize B k) (2 ^ 32) fits, lt-leb (storeSize B k) a (omega (arith, exact)))
+    too-short h = simp (le-leb (storeSize B k) (2 ^ 32) fits, lt-leb (storeSize B k) a (omega (arith, exact)))
 
-    pub second-short : w ≤ a → b < w → 6 ≡ storeRefusal B k a b
+    pub suffices : w ≤ a → 0 ≡ storeRefusal B k a
     unfolding storeRefusal
-    second-short h l =
-        simp (le-leb (storeSize B k) (2 ^ 32) fits, le-leb (storeSize B k) a (omega (arith, exact)), lt-leb (storeSize B k) b (omega (arith, exact)))
+    suffices h = simp (le-leb (storeSize B k) (2 ^ 32) fits, le-leb (storeSize B k) a (omega (arith, exact)))
 
-    pub both-suffice : w ≤ a → w ≤ b → 0 ≡ storeRefusal B k a b
-    unfolding storeRefusal
-    both-suffice h l =
-        simp (le-leb (storeSize B k) (2 ^ 32) fits, le-leb (storeSize B k) a (omega (arith, exact)), le-leb (storeSize B k) b (omega (arith, exact)))
+-- ---- what a store that is not refused has
 
--- ---- what stores that are not refused have
+none-refused : (x y : Bool) → _≡_ {A = ℕ} (cond x (cond y 0 6) 6) 0 → (x ≡ true) × (y ≡ true)
+none-refused true true e = (refl, refl)
+none-refused true false e = absurd (omega arith)
+none-refused false y e = absurd (omega arith)
 
-largest-of : (B m d : ℕ) → 1 ≤ d → d ≤ m → layerSize B d ≤ largestLayer B m
-largest-of B zero d pos h = absurd (omega arith)
-largest-of B (suc m) d pos h = go (ℕ-discrete d (suc m)) (largest-of B m d pos)
-  where
-    step : largestLayer B (suc m) ≡ max (largestLayer B m) (layerSize B (suc m))
-    step = largest-step B (suc m) (omega arith) ∙ (let e : suc m - 1 ≡ m = omega arith in ap (λ (x : ℕ). max (largestLayer B x) (layerSize B (suc m))) e)
-
-    go : Dec (d ≡ suc m) → (d ≤ m → layerSize B d ≤ largestLayer B m) → layerSize B d ≤ largestLayer B (suc m)
-    go (yes e) f = omega (arith, step, ap (layerSize B) e)
-    go (no n) f = omega (arith, step, f (omega arith))
-
-none-refused : (x y z : Bool) → _≡_ {A = ℕ} (cond x (cond y (cond z 0 6) 6) 6) 0 → (x ≡ true) × (y ≡ true) × (z ≡ true)
-none-refused true true true e = (refl, refl, refl)
-none-refused true true false e = absurd (omega arith)
-none-refused true false z e = absurd (omega arith)
-none-refused false y z e = absurd (omega arith)
-
-pub stores-suffice : StoresSuffice
-unfolding storeRefusal storeSize
-stores-suffice B k a b e d pos h =
-    let w = none-refused (leb (storeSize B k) (2 ^ 32)) (leb (storeSize B k) a) (leb (storeSize B k) b) e in
-    let l : layerSize B d ≤ storeSize B k = largest-of B (max 1 (k - 1)) d pos h in
-    let one : 1 ≤ 2 ^ d = pow-pos d in
-    let all : storeSize B k ≤ 2 ^ 32 = leb-true (storeSize B k) (2 ^ 32) (w .0) in
-    record {
-      few = omega (arith, mul-le-mul-left (choose B d) one);
-      within = l;
-      first = le-trans l (leb-true (storeSize B k) a (w .1));
-      second = le-trans l (leb-true (storeSize B k) b (w .2));
-    }
+pub store-suffices : StoreSuffices
+unfolding storeRefusal
+store-suffices B k a e =
+    let w = none-refused (leb (storeSize B k) (2 ^ 32)) (leb (storeSize B k) a) e in
+    record { few = leb-true (storeSize B k) (2 ^ 32) (w .0); room = leb-true (storeSize B k) a (w .1) }

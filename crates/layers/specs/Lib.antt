@@ -1,5 +1,6 @@
--- What the layered search stands on: the layers and their stores, and the size that a store must have.
-pub mod Layers
+-- What the layered search stands on: one store of all-set counts, the bins worked out from it, and the run of a candidate.
+pub mod Store
+pub mod Settle
+pub mod Gather
 pub mod Run
-pub mod Size
 pub mod Examples

@@ -1,5 +1,8 @@
-// What the layered search stands on: the bins of a subset from one count and the layer below, a whole layer from the layer below,
-// and the size that the two stores must have.
-pub mod layers;
+// What the layered search stands on: one store with the all-set counts of the smaller subsets, the bins of a subset worked out from it, and the run of a
+// candidate.
+pub mod bins;
+mod gather;
 pub mod run;
+mod settle;
 pub mod size;
+pub mod store;

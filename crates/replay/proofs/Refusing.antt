@@ -9,12 +9,12 @@ use lib.ListN.{length}
 use borrow.Author.Tests.{eqb-true}
 use Rattle.counting.specs.Block.{validSize}
 use Rattle.counting.specs.declared.sampling.Sampler.{Sampler}
-use Rattle.layers.specs.Size.{storeRefusal}
+use Rattle.layers.specs.Store.{storeRefusal}
 use Rattle.searching.specs.Finding.{refusedWith}
 use Rattle.searching.specs.Refusal.{orElse, widthRefusal, bufferRefusal, searchRefusal, layeredRefusal}
 use Rattle.searching.specs.Search.{LayeredSearch}
 use Rattle.searching.specs.declared.finding.Searched.{Searched}
-use Rattle.searching.proofs.Refusing.{Width, passed, width-free, buffer-free, neither, or-first, search-refused}
+use Rattle.searching.proofs.Refusing.{Width, passed, width-free, buffer-free, neither, or-first, search-refused, store-refused}
 use Rattle.counting.specs.Sample.{total}
 use Rattle.replay.specs.Replay.{replayRefusal, refusedReplay, ReplayOf}
 use Rattle.replay.specs.declared.replay.Replayed.{Replayed}
@@ -42,35 +42,35 @@ replay-free B bytes lengths k bins order e =
       room = buffer-free k bins order (w .1);
     }
 
--- where the search itself is not refused, the stores decide
-pub stores-decide : (s : Sampler) (words first end k a b bins order : ℕ) → searchRefusal s words first end k ≡ 0
-    → layeredRefusal s words first end k a b bins order ≡ orElse (storeRefusal (s .«block_size») k a b) (bufferRefusal k bins order)
+-- where the search itself is not refused, the store decides
+pub store-decides : (s : Sampler) (words first end k a bins order : ℕ) → searchRefusal s words first end k ≡ 0
+    → layeredRefusal s words first end k a bins order ≡ orElse (storeRefusal (s .«block_size») k a) (bufferRefusal k bins order)
 unfolding layeredRefusal
-stores-decide s words first end k a b bins order e = rw e
+store-decides s words first end k a bins order e = rw e
 
 -- the layered search is not made, and everything is as lent
-pub left-out : (s : Sampler) (ws : List ℕ) (end k : ℕ) (first second bins order : List ℕ) (answer : Searched) (short : ℕ)
-    → searchRefusal s (length ws) 0 end k ≡ 0 → short ≡ storeRefusal (s .«block_size») k (length first) (length second) → (short ≡ 0 → ⊥) → answer ≡ refusedWith short
-    → LayeredSearch s ws 0 end k first second bins order answer first second bins order
-left-out s ws end k first second bins order answer short free is some e =
-    let stores = storeRefusal (s .«block_size») k (length first) (length second) in
-    let said : short ≡ layeredRefusal s (length ws) 0 end k (length first) (length second) (length bins) (length order) =
+pub left-out : (s : Sampler) (ws : List ℕ) (end k : ℕ) (store bins order : List ℕ) (answer : Searched) (short : ℕ)
+    → searchRefusal s (length ws) 0 end k ≡ 0 → short ≡ storeRefusal (s .«block_size») k (length store) → (short ≡ 0 → ⊥) → answer ≡ refusedWith short
+    → LayeredSearch s ws 0 end k store bins order answer store bins order
+left-out s ws end k store bins order answer short free is some e =
+    let stores = storeRefusal (s .«block_size») k (length store) in
+    let said : short ≡ layeredRefusal s (length ws) 0 end k (length store) (length bins) (length order) =
     is ∙ or-first stores (bufferRefusal k (length bins) (length order)) (λ z. some (is ∙ z))
-    ∙ sym (stores-decide s (length ws) 0 end k (length first) (length second) (length bins) (length order) free) in
+    ∙ sym (store-decides s (length ws) 0 end k (length store) (length bins) (length order) free) in
     record {
       search = search-refused _ _ _ _ _ k bins order answer (λ z. some (said ∙ z)) (e ∙ ap refusedWith said);
-      kept = (refl, refl);
+      stored = store-refused _ _ _ _ k store (λ z. some (said ∙ z));
     }
 
 -- a replay that is refused leaves everything as lent
-pub as-lent : (r B : ℕ) (low : Bool) (pieces : List (List ℕ)) (k : ℕ) (ws first second bins order : List ℕ) (answer : Replayed)
-    → (r ≡ 0 → ⊥) → answer ≡ refusedReplay r → ReplayOf r B low pieces k ws first second bins order answer ws first second bins order
-as-lent zero B low pieces k ws first second bins order answer some e = absurd (some refl)
-as-lent (suc r) B low pieces k ws first second bins order answer some e = record {
+pub as-lent : (r B : ℕ) (low : Bool) (pieces : List (List ℕ)) (k : ℕ) (ws store bins order : List ℕ) (answer : Replayed)
+    → (r ≡ 0 → ⊥) → answer ≡ refusedReplay r → ReplayOf r B low pieces k ws store bins order answer ws store bins order
+as-lent zero B low pieces k ws store bins order answer some e = absurd (some refl)
+as-lent (suc r) B low pieces k ws store bins order answer some e = record {
   answered = e;
   written = refl;
   counted = refl;
   ordered = refl;
-  kept = (refl, refl);
+  stored = refl;
   best = λ z. absurd (some z);
 }

@@ -2,7 +2,8 @@
 use mathlib.Core.Path.{_≡_, refl, ap, subst, _∙_}
 use mathlib.Core.Bool.{Bool, true, false}
 use mathlib.Core.List.{List, [], _∷_, _++_, append-assoc, append-nil}
-use Prim.Native.Nat.{ℕ, zero, suc, _^_, _≤_, zero-le}
+use Prim.Native.Nat.{ℕ, zero, suc, _-_, _^_, _≤_, zero-le}
+use native.Mathlib.Nat.{zero-add, sub-zero}
 use native.Mathlib.Omega.{arith}
 use lib.Dec.{eqb}
 use lib.ListN.{length, drop}
@@ -10,20 +11,21 @@ use borrow.Author.Tests.{eqb-true}
 use Rattle.counting.specs.Block.{validSize}
 use Rattle.counting.specs.Recorded.{State, started, fed, fedAll, answersFrom, HoldsRecording}
 use Rattle.counting.specs.Recording.{stride, capacityBytes, recording, blocksIn, recordedBit}
-use Rattle.counting.specs.Sample.{countsOf, AgreeBelow}
+use Rattle.counting.specs.Sample.{onward, countsOf, AgreeBelow}
 use Rattle.counting.specs.Sampling.{startedOf, startedWords, blocksOf, fedOf, fedWords}
+use Rattle.counting.specs.Stretch.{stretchOf, stretchBit, span}
 use Rattle.counting.specs.Words.{storedBit}
 use Rattle.counting.specs.declared.sampling.Sampler.{Sampler}
 use Rattle.counting.specs.declared.sampling.Started.{Started}
 use Rattle.counting.proofs.Recorded.{all-recorded}
-use Rattle.layers.specs.Size.{storeRefusal}
+use Rattle.layers.specs.Store.{storeOf, storeSize, storeRefusal}
 use Rattle.scoring.specs.Score.{Number}
 use Rattle.ranking.specs.Order.{orderOf}
 use Rattle.ranking.proofs.Dividing.{score-number}
 use Rattle.searching.specs.Claim.{Acquisition, fresh, next, BestOf, Claim}
 use Rattle.searching.specs.Finding.{winnerOf}
 use Rattle.searching.specs.Refusal.{orElse, widthRefusal, searchRefusal, directRefusal, layeredRefusal}
-use Rattle.searching.specs.Search.{Search, StretchSearch, DirectSearch, LayeredSearch, freeAfter}
+use Rattle.searching.specs.Search.{Search, StretchSearch, DirectSearch, LayeredSearch, storeAfter}
 use Rattle.searching.specs.Stretches.{sampleOf}
 use Rattle.searching.specs.declared.finding.Finding.{Finding}
 use Rattle.searching.specs.declared.finding.Searched.{Searched}
@@ -38,7 +40,7 @@ use Rattle.replay.specs.Replay.{heldFinding, ReplayOf}
 use Rattle.replay.specs.declared.pieces.Taken.{Taken}
 use Rattle.replay.proofs.Agreeing.{winner-counts, winner-finding}
 use Rattle.replay.proofs.Comparing.{finding-self}
-use Rattle.replay.proofs.Refusing.{ReplayFree, stores-decide}
+use Rattle.replay.proofs.Refusing.{ReplayFree, store-decides}
 
 -- ---- the calls are an acquisition
 
@@ -148,7 +150,7 @@ agree-is layered direct N same = by-test (eqb (layered .refusal) 0) refl
         rw e (subst (λ (f : Finding). sameFinding f (direct .finding) ≡ true) is (finding-self (direct .finding) N))
     by-test false e = rw e
 
-module _ (B : ℕ) (low : Bool) (ws : List ℕ) (pieces : List (List ℕ)) (bytes : ℕ) (lengths : List ℕ) (k : ℕ) (first second bins order : List ℕ)
+module _ (B : ℕ) (low : Bool) (ws : List ℕ) (pieces : List (List ℕ)) (bytes : ℕ) (lengths : List ℕ) (k : ℕ) (store bins order : List ℕ)
     (free : ReplayFree B bytes lengths k (length bins) (length order)) where
   abbrev st : State
   st = stateAfter B low ws pieces
@@ -157,7 +159,7 @@ module _ (B : ℕ) (low : Bool) (ws : List ℕ) (pieces : List (List ℕ)) (byte
   held = recording B (length ws) pieces
 
   abbrev stores : ℕ
-  stores = storeRefusal B k (length first) (length second)
+  stores = storeRefusal B k (length store)
 
   abbrev sampler : Sampler
   sampler = record { «block_size» = B; words = length ws; taken = length held; «low_first» = low }
@@ -171,20 +173,20 @@ module _ (B : ℕ) (low : Bool) (ws : List ℕ) (pieces : List (List ℕ)) (byte
   no-search : searchRefusal (st .sampler) (length (st .words)) 0 (blocksOf (st .sampler)) k ≡ 0
   no-search = searchable B low ws pieces (free .valid) k (free .no-width)
 
-  -- the layered search is refused just where the stores do not suffice
-  layered-said : layeredRefusal (st .sampler) (length (st .words)) 0 (blocksOf (st .sampler)) k (length first) (length second) (length bins) (length order) ≡ stores
+  -- the layered search is refused just where the store does not suffice
+  layered-said : layeredRefusal (st .sampler) (length (st .words)) 0 (blocksOf (st .sampler)) k (length store) (length bins) (length order) ≡ stores
   layered-said =
       let block : st .sampler .«block_size» ≡ B = ap (λ (q : Sampler). q .«block_size») (H .sampler) in
-      stores-decide (st .sampler) (length (st .words)) 0 (blocksOf (st .sampler)) k (length first) (length second) (length bins) (length order) no-search
-      ∙ or-none _ _ (free .no-buffer) ∙ ap (λ (m : ℕ). storeRefusal m k (length first) (length second)) block
+      store-decides (st .sampler) (length (st .words)) 0 (blocksOf (st .sampler)) k (length store) (length bins) (length order) no-search
+      ∙ or-none _ _ (free .no-buffer) ∙ ap (λ (m : ℕ). storeRefusal m k (length store)) block
 
-  module _ (taken : Taken) (layered direct : Searched) (ws′ first′ second′ bins₁ order₁ bins′ order′ : List ℕ)
+  module _ (taken : Taken) (layered direct : Searched) (ws′ store′ bins₁ order₁ bins′ order′ : List ℕ)
       (is : stateOf (taken .sampler) ws′ ≡ stateAfter B low ws pieces)
-      (made-layered : LayeredSearch (taken .sampler) ws′ 0 (blocksOf (taken .sampler)) k first second bins order layered first′ second′ bins₁ order₁)
+      (made-layered : LayeredSearch (taken .sampler) ws′ 0 (blocksOf (taken .sampler)) k store bins order layered store′ bins₁ order₁)
       (made-direct : DirectSearch (taken .sampler) ws′ 0 (blocksOf (taken .sampler)) k bins₁ order₁ direct bins′ order′)
       (same-bins : length bins₁ ≡ length bins) (same-order : length order₁ ≡ length order) where
-    L : LayeredSearch (st .sampler) (st .words) 0 (blocksOf (st .sampler)) k first second bins order layered first′ second′ bins₁ order₁
-    L = subst (λ (q : State). LayeredSearch (q .sampler) (q .words) 0 (blocksOf (q .sampler)) k first second bins order layered first′ second′ bins₁ order₁) is made-layered
+    L : LayeredSearch (st .sampler) (st .words) 0 (blocksOf (st .sampler)) k store bins order layered store′ bins₁ order₁
+    L = subst (λ (q : State). LayeredSearch (q .sampler) (q .words) 0 (blocksOf (q .sampler)) k store bins order layered store′ bins₁ order₁) is made-layered
 
     D : DirectSearch (st .sampler) (st .words) 0 (blocksOf (st .sampler)) k bins₁ order₁ direct bins′ order′
     D = subst (λ (q : State). DirectSearch (q .sampler) (q .words) 0 (blocksOf (q .sampler)) k bins₁ order₁ direct bins′ order′) is made-direct
@@ -206,7 +208,7 @@ module _ (B : ℕ) (low : Bool) (ws : List ℕ) (pieces : List (List ℕ)) (byte
     best = whole-recordings B low ws pieces _ _ _ (acquired B low ws pieces (free .valid)) .best k (direct .finding) bins′ order′ (C .direct 0 blocks k bins₁ order₁ direct bins′ order′ D .best succeeds)
 
     refusal : ℕ
-    refusal = layeredRefusal (st .sampler) (length (st .words)) 0 blocks k (length first) (length second) (length bins) (length order)
+    refusal = layeredRefusal (st .sampler) (length (st .words)) 0 blocks k (length store) (length bins) (length order)
 
     -- a search of all blocks, of the sampler that the recording tells
     all-blocks : (q : ℕ) (bins order : List ℕ) (r : Searched) (bins′ order′ : List ℕ) → StretchSearch q (st .sampler) (st .words) 0 blocks k bins order r bins′ order′
@@ -226,7 +228,7 @@ module _ (B : ℕ) (low : Bool) (ws : List ℕ) (pieces : List (List ℕ)) (byte
     agreed : agreeOf layered direct ≡ true
     agreed =
         agree-is layered direct (rw (best .z) (score-number _ _ _))
-        (λ z. C .same 0 blocks k bins₁ order₁ direct bins′ order′ D first second bins order layered first′ second′ bins₁ order₁ L succeeds z .findings)
+        (λ z. C .same 0 blocks k bins₁ order₁ direct bins′ order′ D store bins order layered store′ bins₁ order₁ L succeeds z .findings)
 
     found : Told B low held k bins₁ order₁ (direct .finding) bins′ order′
     found =
@@ -237,19 +239,23 @@ module _ (B : ℕ) (low : Bool) (ws : List ℕ) (pieces : List (List ℕ)) (byte
     past : (drop (2 ^ k) bins₁ ≡ drop (2 ^ k) bins) × (drop (2 ^ k) order₁ ≡ drop (2 ^ k) order)
     past = past-kept B low (length ws) held (st .words) (free .valid) (H .lent) (H .within) (H .stored) k (free .width .chosen) refusal bins order layered bins₁ order₁ told-layered
 
-    stores-kept : (drop (freeAfter stores B k) first′ ≡ drop (freeAfter stores B k) first) × (drop (freeAfter stores B k) second′ ≡ drop (freeAfter stores B k) second)
-    stores-kept =
-        let block : st .sampler .«block_size» ≡ B = ap (λ (q : Sampler). q .«block_size») (H .sampler) in
-        let same : freeAfter (layeredRefusal (st .sampler) (length (st .words)) 0 (blocksOf (st .sampler)) k (length first) (length second) (length bins) (length order)) (st .sampler .«block_size») k
-        ≡ freeAfter stores B k = λ i. freeAfter (layered-said i) (block i) k in
-        subst (λ (m : ℕ). (drop m first′ ≡ drop m first) × (drop m second′ ≡ drop m second)) same (L .kept)
+    -- where the search ran the claim tells the store, of the blocks from 0 on, which are all; where it did not, the store is as lent
+    stored-after : (q : ℕ) → stores ≡ q → store′ ≡ storeAfter q (recordedBit B low held) (blocksIn B held) B k store
+    stored-after zero e =
+        let bit = recordedBit B low held in
+        let from : onward 0 bit ≡ bit = λ i e. bit (zero-add e i) in
+        let all : blocks - 0 ≡ blocksIn B held = sub-zero blocks ∙ blocks-are B low ws pieces (free .valid) in
+        C .layered 0 blocks k store bins order layered store′ bins₁ order₁ L .1 (layered-is ∙ e) ∙ λ i. storeOf (from i) (all i) B k ++ drop (storeSize B k) store
+    stored-after (suc q) e =
+        let x = stretchOf (st .sampler) (length (st .words)) 0 blocks in
+        subst (λ (m : ℕ). store′ ≡ storeAfter m (stretchBit x (st .words)) (span x) (st .sampler .«block_size») k store) (layered-said ∙ e) (L .stored)
 
     pub replayed : taken .refused ≡ refusedIn (answersFrom (started B low ws) pieces)
         → (agree : Bool) → agree ≡ agreeOf layered direct
         → (q : ℕ) → q ≡ 0
-        → ReplayOf q B low pieces k ws first second bins order
+        → ReplayOf q B low pieces k ws store bins order
         (record { refusal = 0; refused = taken .refused; layered = eqb (layered .refusal) 0; agree = agree; finding = direct .finding })
-        ws′ first′ second′ bins′ order′
+        ws′ store′ bins′ order′
     replayed refused agree a q none =
         let r = refused ∙ ap refusedIn (C .fed) in
         let l = ap (λ (q : ℕ). eqb q 0) layered-is in
@@ -260,6 +266,6 @@ module _ (B : ℕ) (low : Bool) (ws : List ℕ) (pieces : List (List ℕ)) (byte
           written = ap (λ (x : State). x .words) is;
           counted = found .counted ∙ ap (λ (rest : List ℕ). counts ++ rest) (past .0);
           ordered = found .ordered ∙ ap (λ (rest : List ℕ). orderOf counts ++ rest) (past .1);
-          kept = stores-kept;
+          stored = stored-after stores refl;
           best = λ z. best;
         })

@@ -4,22 +4,22 @@ use Prim.Native.Nat.{ℕ, zero, suc}
 use mathlib.Core.Bool.{Bool, true, false, cond}
 use mathlib.Core.List.{List, []}
 use lib.Dec.{eqb}
-use lib.ListN.{length, drop}
+use lib.ListN.{length}
 use Rattle.counting.specs.Block.{validSize}
 use Rattle.counting.specs.Recorded.{started, fedAll}
 use Rattle.counting.specs.Recording.{recording, refusalsFrom, blocksIn, recordedBit}
-use Rattle.layers.specs.Size.{storeRefusal}
+use Rattle.layers.specs.Store.{storeRefusal}
 use Rattle.searching.specs.Claim.{BestOf}
 use Rattle.searching.specs.Finding.{winnerOf, findingOf, noFinding}
 use Rattle.searching.specs.Refusal.{orElse, widthRefusal, bufferRefusal}
-use Rattle.searching.specs.Search.{binsAfter, orderAfter, freeAfter}
+use Rattle.searching.specs.Search.{binsAfter, orderAfter, storeAfter}
 use Rattle.searching.specs.declared.finding.Finding.{Finding}
 use Rattle.counting.specs.Sample.{total}
 use Rattle.replay.specs.Pieces.{cut, refusedIn}
 use Rattle.replay.specs.declared.replay.Replayed.{Replayed}
 
 -- 24: the lengths do not add up to the recording's; then start's 1, and the searches' 2, 3, 7. A fresh sampler is never refused 4, a feed that is refused
--- 5 is counted, and stores that do not suffice (6) leave the layered search out.
+-- 5 is counted, and a store that does not suffice (6) leaves the layered search out.
 unfoldable pub replayRefusal : ℕ → ℕ → List ℕ → ℕ → ℕ → ℕ → ℕ
 replayRefusal B bytes lengths k bins order =
     cond (eqb (total lengths) bytes) (cond (validSize B) (orElse (widthRefusal B k) (bufferRefusal k bins order)) 1) 24
@@ -33,17 +33,17 @@ abbrev pub heldFinding : ℕ → Bool → List ℕ → ℕ → Finding
 heldFinding B low held k =
     findingOf low (recordedBit B low held) (blocksIn B held) B (winnerOf (recordedBit B low held) (blocksIn B held) B k)
 
--- the answer, with the refusal r and stores of a and b entries: what the plain recording of the pieces says, and that the findings agree
-abbrev pub replayedOf : ℕ → ℕ → Bool → ℕ → List (List ℕ) → ℕ → ℕ → ℕ → Replayed
-replayedOf zero B low words pieces k a b =
+-- the answer, with the refusal r and a store of a entries: what the plain recording of the pieces says, and that the findings agree
+abbrev pub replayedOf : ℕ → ℕ → Bool → ℕ → List (List ℕ) → ℕ → ℕ → Replayed
+replayedOf zero B low words pieces k a =
     record {
       refusal = 0;
       refused = refusedIn (refusalsFrom B words [] pieces);
-      layered = eqb (storeRefusal B k a b) 0;
+      layered = eqb (storeRefusal B k a) 0;
       agree = true;
       finding = heldFinding B low (recording B words pieces) k;
     }
-replayedOf (suc r) B low words pieces k a b = refusedReplay (suc r)
+replayedOf (suc r) B low words pieces k a = refusedReplay (suc r)
 
 -- the words afterwards: those after start and all feeds; as lent where refused
 abbrev pub wordsAfter : ℕ → ℕ → Bool → List ℕ → List (List ℕ) → List ℕ
@@ -51,9 +51,9 @@ wordsAfter zero B low ws pieces = fedAll (started B low ws) pieces .words
 wordsAfter (suc r) B low ws pieces = ws
 
 -- A replay of the pieces in a bit order with the refusal r: its answer and everything lent afterwards.
-pub record ReplayOf (r B : ℕ) (low : Bool) (pieces : List (List ℕ)) (k : ℕ) (ws first second bins order : List ℕ) (answer : Replayed)
-    (ws′ first′ second′ bins′ order′ : List ℕ) : Type 0 where
-  pub answered : answer ≡ replayedOf r B low (length ws) pieces k (length first) (length second)
+pub record ReplayOf (r B : ℕ) (low : Bool) (pieces : List (List ℕ)) (k : ℕ) (ws store bins order : List ℕ) (answer : Replayed)
+    (ws′ store′ bins′ order′ : List ℕ) : Type 0 where
+  pub answered : answer ≡ replayedOf r B low (length ws) pieces k (length store)
   pub written : ws′ ≡ wordsAfter r B low ws pieces
   -- the winner's counts and order, and past them as lent; all as lent where refused
   pub counted :
@@ -62,14 +62,14 @@ pub record ReplayOf (r B : ℕ) (low : Bool) (pieces : List (List ℕ)) (k : ℕ
   pub ordered :
       let held = recording B (length ws) pieces in
       order′ ≡ orderAfter r (recordedBit B low held) (blocksIn B held) B k order
-  -- where the layered search ran the first W entries of each store are free, and the rest as lent; all as lent where it did not
-  pub kept :
-      let free = freeAfter (orElse r (storeRefusal B k (length first) (length second))) B k in
-      (drop free first′ ≡ drop free first) × (drop free second′ ≡ drop free second)
+  -- where the layered search ran, the all-set counts of the smaller subsets, and past them as lent; all as lent where it did not
+  pub stored :
+      let held = recording B (length ws) pieces in
+      store′ ≡ storeAfter (orElse r (storeRefusal B k (length store))) (recordedBit B low held) (blocksIn B held) B k store
   -- the claim's conclusion: what was found is the best of the recording
   pub best : r ≡ 0 → BestOf B low (recording B (length ws) pieces) k (answer .finding) bins′ order′
 
 -- What `replay` promises.
-abbrev pub Replay : ℕ → Bool → List ℕ → List ℕ → ℕ → List ℕ → List ℕ → List ℕ → List ℕ → List ℕ → Replayed → List ℕ → List ℕ → List ℕ → List ℕ → List ℕ → Type 0
-Replay B low bytes lengths k ws first second bins order =
-    ReplayOf (replayRefusal B (length bytes) lengths k (length bins) (length order)) B low (cut bytes lengths) k ws first second bins order
+abbrev pub Replay : ℕ → Bool → List ℕ → List ℕ → ℕ → List ℕ → List ℕ → List ℕ → List ℕ → Replayed → List ℕ → List ℕ → List ℕ → List ℕ → Type 0
+Replay B low bytes lengths k ws store bins order =
+    ReplayOf (replayRefusal B (length bytes) lengths k (length bins) (length order)) B low (cut bytes lengths) k ws store bins order

@@ -31,7 +31,7 @@ pub struct Replayed {
     pub finding: Finding,
 }
 
-// Feeds a recording in pieces of the given lengths to a fresh sampler of the words in the given bit order, and searches it: by layers where the stores suffice, and directly.
+// Feeds a recording in pieces of the given lengths to a fresh sampler of the words in the given bit order, and searches it: by layers where the store suffices, and directly.
 // Refusals 24 (the lengths do not add up to the recording's), 1, 2, 3, 7, all before anything is written.
 pub fn replay(
     block_size: usize,
@@ -40,12 +40,11 @@ pub fn replay(
     lengths: &[usize],
     k: usize,
     words: &mut [u64],
-    first: &mut [u32],
-    second: &mut [u32],
+    store: &mut [u32],
     bins: &mut [u32],
     order: &mut [u32],
 ) -> Replayed
-    ensures { λ r. ⌜ Replay «block_size» «low_first» (now (recording .entry)) (now (lengths .entry)) k (now (words .entry)) (now (first .entry)) (now (second .entry)) (now (bins .entry)) (now (order .entry)) r (now (words .exit)) (now (first .exit)) (now (second .exit)) (now (bins .exit)) (now (order .exit)) ⌝ }
+    ensures { λ r. ⌜ Replay «block_size» «low_first» (now (recording .entry)) (now (lengths .entry)) k (now (words .entry)) (now (store .entry)) (now (bins .entry)) (now (order .entry)) r (now (words .exit)) (now (store .exit)) (now (bins .exit)) (now (order .exit)) ⌝ }
 {
     let refusal = replay_refusal(
         block_size,
@@ -60,7 +59,7 @@ pub fn replay(
     }
     let started = start(block_size, low_first, words);
     let taken = feed_pieces(started.sampler, words, recording, lengths);
-    let layered = search_layered(taken.sampler, words, k, first, second, bins, order);
+    let layered = search_layered(taken.sampler, words, k, store, bins, order);
     let n = blocks(taken.sampler);
     let direct = brute_force_threads(taken.sampler, words, 0, n, k, bins, order);
     let agree = agreeing(layered, direct);
@@ -74,25 +73,24 @@ pub fn replay(
     }
 }
 
-// The layered search of all blocks where the stores suffice. Else it is not made, and the answer is what it would refuse with, 6.
+// The layered search of all blocks where the store suffices. Else it is not made, and the answer is what it would refuse with, 6.
 fn search_layered(
     sampler: Sampler,
     words: &[u64],
     k: usize,
-    first: &mut [u32],
-    second: &mut [u32],
+    store: &mut [u32],
     bins: &mut [u32],
     order: &mut [u32],
 ) -> Searched
     requires { ⌜ searchRefusal sampler (length (now words)) 0 (blocksOf sampler) k ≡ 0 ⌝ }
-    ensures { λ r. ⌜ LayeredSearch sampler (now (words .entry)) 0 (blocksOf sampler) k (now (first .entry)) (now (second .entry)) (now (bins .entry)) (now (order .entry)) r (now (first .exit)) (now (second .exit)) (now (bins .exit)) (now (order .exit)) ⌝ }
+    ensures { λ r. ⌜ LayeredSearch sampler (now (words .entry)) 0 (blocksOf sampler) k (now (store .entry)) (now (bins .entry)) (now (order .entry)) r (now (store .exit)) (now (bins .exit)) (now (order .exit)) ⌝ }
 {
-    let short = store_refusal(sampler.block_size, k, first.len(), second.len());
+    let short = store_refusal(sampler.block_size, k, store.len());
     if short != 0 {
         return refused(short);
     }
     let n = blocks(sampler);
-    brute_force(sampler, words, 0, n, k, first, second, bins, order)
+    brute_force(sampler, words, 0, n, k, store, bins, order)
 }
 
 // 24, 1, 2, 3, 7, or 0 where a recording of `recording` bytes can be replayed.

@@ -1,12 +1,14 @@
-// Cases of replays: B, the bit order, 1 where the low bit comes first, k, how many words, bins, entries of the order and of the two stores are lent, and how
-// many entries of a store the layered search may use; the number of the recording's bytes, and each; the number of lengths, and each.
+// Cases of replays: B, the bit order, 1 where the low bit comes first, k, how many words, bins, entries of the order and of the store are lent; the
+// number of the recording's bytes, and each; the number of lengths, and each.
 // Answer: a line with the refusal, the number of refused feeds, whether the layered search ran, whether the findings agree, and the finding: B, width, 20
 // bits, division, the pattern of z, the bit order; a line with all words, one with the whole bin buffer and one with the whole order buffer afterwards; and
-// one with how many entries of each store, past those that may be used, are no longer as lent.
+// one with how many entries of the store, past the counts that the layered search leaves there, are no longer as lent, and the sum of these counts, each times
+// its place.
 ghost use mathlib.Core.Path.{_≡_};
 ghost use lib.ListN.{length};
 use cases::entries::changed;
 use cases::entries::print_first;
+use cases::entries::weighed;
 use cases::feeding::dirty;
 use cases::patterns::print_double;
 use cases::printing::end_line;
@@ -14,6 +16,7 @@ use cases::printing::print;
 use cases::reading::at_most;
 use cases::reading::bytes;
 use cases::reading::number;
+use layers::size::store_size;
 use replay::replay::Replayed;
 use replay::replay::replay;
 
@@ -25,9 +28,7 @@ struct Case {
     words: u64,
     bins: u64,
     order: u64,
-    first: u64,
-    second: u64,
-    free: usize,
+    store: u64,
     at: usize,
 }
 
@@ -57,9 +58,7 @@ fn read_case(text: &[u8], at: usize) -> Case {
     let words = number(text, width.at);
     let bins = number(text, words.at);
     let order = number(text, bins.at);
-    let first = number(text, order.at);
-    let second = number(text, first.at);
-    let free = number(text, second.at);
+    let store = number(text, order.at);
     Case {
         block_size: size.value as usize,
         low_first: bit_order.value == 1,
@@ -67,10 +66,8 @@ fn read_case(text: &[u8], at: usize) -> Case {
         words: words.value,
         bins: bins.value,
         order: order.value,
-        first: first.value,
-        second: second.value,
-        free: free.value as usize,
-        at: free.at,
+        store: store.value,
+        at: store.at,
     }
 }
 
@@ -111,24 +108,21 @@ fn read_lengths(text: &[u8], at: usize, to: &mut [usize]) -> usize {
 // Lends as many entries as the case says.
 fn lend(case: Case, recording: &[u8], lengths: &[usize]) {
     let mut words = dirty();
-    let mut first = store();
-    let mut second = store();
+    let mut counts = store();
     let mut bins = buffer();
     let mut order = buffer();
     let a = at_most(case.words, 8192);
-    let b = at_most(case.first, 8448);
-    let c = at_most(case.second, 8448);
-    let d = at_most(case.bins, 512);
-    let e = at_most(case.order, 512);
+    let b = at_most(case.store, 8448);
+    let c = at_most(case.bins, 512);
+    let d = at_most(case.order, 512);
     answer(
         case,
         recording,
         lengths,
         &mut words[..a],
-        &mut first[..b],
-        &mut second[..c],
-        &mut bins[..d],
-        &mut order[..e],
+        &mut counts[..b],
+        &mut bins[..c],
+        &mut order[..d],
     );
 }
 
@@ -137,8 +131,7 @@ fn answer(
     recording: &[u8],
     lengths: &[usize],
     words: &mut [u64],
-    first: &mut [u32],
-    second: &mut [u32],
+    store: &mut [u32],
     bins: &mut [u32],
     order: &mut [u32],
 ) {
@@ -149,8 +142,7 @@ fn answer(
         lengths,
         case.k,
         words,
-        first,
-        second,
+        store,
         bins,
         order,
     );
@@ -158,8 +150,9 @@ fn answer(
     print_words(words);
     print_all(bins);
     print_all(order);
-    print(changed(first, case.free) as u64);
-    print(changed(second, case.free) as u64);
+    let kept = kept_entries(replayed.layered, case.block_size, case.k);
+    print(changed(store, kept) as u64);
+    print(weighed(store, kept));
     end_line();
 }
 
@@ -220,4 +213,18 @@ fn store() -> [u32; 8448]
     ensures { λ r. ⌜ 8448 ≡ length r ⌝ }
 {
     [99; 8448]
+}
+
+// How many counts the layered search leaves in the store: none where it did not run.
+fn kept_entries(layered: bool, block_size: usize, k: usize) -> usize {
+    if !layered {
+        return 0;
+    }
+    if block_size > 4096 {
+        return 0;
+    }
+    if k > 20 {
+        return 0;
+    }
+    store_size(block_size, k)
 }

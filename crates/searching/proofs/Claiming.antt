@@ -22,7 +22,7 @@ use Rattle.counting.specs.declared.sampling.Started.{Started}
 use Rattle.counting.specs.declared.sampling.Fed.{Fed}
 use Rattle.counting.proofs.Counts.{same-counts}
 use Rattle.counting.proofs.Recorded.{all-recorded, fedAll-snoc, answers-snoc}
-use Rattle.layers.specs.Size.{storeSize, storeRefusal}
+use Rattle.layers.specs.Store.{widest, storeSize, storeRefusal}
 use Rattle.scoring.proofs.Less.{equal}
 use Rattle.ranking.specs.Order.{orderOf}
 use Rattle.ranking.specs.Ranking.{scoreOf}
@@ -34,12 +34,13 @@ use Rattle.subsets.proofs.Filling.{padded-front}
 use Rattle.subsets.proofs.Listing.{bits-below}
 use Rattle.searching.specs.Finding.{winnerOf, findingOf, zOf}
 use Rattle.searching.specs.Refusal.{orElse, widthRefusal, bufferRefusal, searchRefusal, directRefusal, layeredRefusal}
-use Rattle.searching.specs.Search.{StretchSearch, DirectSearch, LayeredSearch}
-use Rattle.searching.specs.Claim.{Acquisition, fresh, next, Best, BestIn, SearchClaim, DirectRoom, LayeredRoom, Same, Claims}
+use Rattle.searching.specs.Search.{StretchSearch, DirectSearch, LayeredSearch, storeAfter}
+use Rattle.searching.specs.Claim.{Acquisition, fresh, next, Best, BestIn, SearchClaim, DirectRoom, LayeredRoom, StoredIn, Same, Claims}
 use Rattle.searching.specs.declared.finding.Finding.{Finding}
 use Rattle.searching.specs.declared.finding.Searched.{Searched}
 use Rattle.searching.proofs.Filled.{replaced-first, length-counts, length-order}
 use Rattle.searching.proofs.Refusing.{SearchFree, direct-free, layered-free, said-is}
+use Rattle.searching.proofs.Stored.{store-agree}
 use Rattle.searching.proofs.Walking.{winner-optimal}
 
 -- ---- an acquisition is a state of the recorder
@@ -222,27 +223,37 @@ module _ (B : ℕ) (low : Bool) (words : ℕ) (held ws : List ℕ) (ok : validSi
       search-claim _ (DirectRoom B k bins order) bins order r bins′ order′ S (direct-out (length bins) (length order)) (direct-is bins order)
       (λ z. direct-free s (length ws) first end k (length bins) (length order) z .search)
 
-  stores-are : (a b : ℕ) → storeSize B k ≤ 2 ^ 32 → storeSize B k ≤ a → storeSize B k ≤ b → storeRefusal B k a b ≡ 0
+  store-is : (a : ℕ) → storeSize B k ≤ 2 ^ 32 → storeSize B k ≤ a → storeRefusal B k a ≡ 0
   unfolding storeRefusal
-  stores-are a b p q r = simp (le-leb _ _ p, le-leb _ _ q, le-leb _ _ r)
+  store-is a p q = simp (le-leb _ _ p, le-leb _ _ q)
 
-  layered-out : (c d a b : ℕ) → (end < first) ⊎ (blocksIn B held < end) → layeredRefusal s (length ws) first end k c d a b ≡ 18
+  layered-out : (c a b : ℕ) → (end < first) ⊎ (blocksIn B held < end) → layeredRefusal s (length ws) first end k c a b ≡ 18
   unfolding layeredRefusal searchRefusal
-  layered-out c d a b o = outside-is (orElse (storeRefusal B k c d) (bufferRefusal k a b)) o
+  layered-out c a b o = outside-is (orElse (storeRefusal B k c) (bufferRefusal k a b)) o
 
-  layered-is : (lower upper bins order : List ℕ) → first ≤ end → end ≤ blocksIn B held → LayeredRoom B k lower upper bins order
-      → layeredRefusal s (length ws) first end k (length lower) (length upper) (length bins) (length order) ≡ 0
+  layered-is : (store bins order : List ℕ) → first ≤ end → end ≤ blocksIn B held → LayeredRoom B k store bins order
+      → layeredRefusal s (length ws) first end k (length store) (length bins) (length order) ≡ 0
   unfolding layeredRefusal searchRefusal
-  layered-is lower upper bins order fe has ((some, width, chosen, p, q), w, x, y) =
-      simp (usable-is, stretch-is fe has, width-is some width chosen, stores-are (length lower) (length upper) w x y, buffer-is (length bins) (length order) p q)
+  layered-is store bins order fe has ((some, width, chosen, p, q), w, x) =
+      simp (usable-is, stretch-is fe has, width-is some width chosen, store-is (length store) w x, buffer-is (length bins) (length order) p q)
 
-  layered-claim : (lower upper bins order : List ℕ) (r : Searched) (lower′ upper′ bins′ order′ : List ℕ)
-      → LayeredSearch s ws first end k lower upper bins order r lower′ upper′ bins′ order′
-      → SearchClaim B low held first end k (LayeredRoom B k lower upper bins order) r bins′ order′
-  layered-claim lower upper bins order r lower′ upper′ bins′ order′ S =
-      search-claim _ (LayeredRoom B k lower upper bins order) bins order r bins′ order′ (S .search)
-      (layered-out (length lower) (length upper) (length bins) (length order)) (layered-is lower upper bins order)
-      (λ z. layered-free s (length ws) first end k (length lower) (length upper) (length bins) (length order) z .search)
+  -- where it was not refused, the counts left in the store are the recording's
+  stored-in : (r : ℕ) (store store′ : List ℕ) → store′ ≡ storeAfter r bit n B k store → r ≡ 0 → end ≤ blocksIn B held → StoredIn B low held first end k store store′
+  stored-in r store store′ S z has =
+      S ∙ ap (λ (q : ℕ). storeAfter q bit n B k store) z ∙ ap (λ (l : List ℕ). l ++ drop (storeSize B k) store) (store-agree n B bit told (agrees has) (widest k))
+
+  layered-claim : (store bins order : List ℕ) (r : Searched) (store′ bins′ order′ : List ℕ)
+      → LayeredSearch s ws first end k store bins order r store′ bins′ order′
+      → SearchClaim B low held first end k (LayeredRoom B k store bins order) r bins′ order′ × (r .refusal ≡ 0 → StoredIn B low held first end k store store′)
+  layered-claim store bins order r store′ bins′ order′ S =
+      let q = layeredRefusal s (length ws) first end k (length store) (length bins) (length order) in
+      let free = layered-free s (length ws) first end k (length store) (length bins) (length order) in (
+        search-claim q (LayeredRoom B k store bins order) bins order r bins′ order′ (S .search)
+            (layered-out (length store) (length bins) (length order)) (layered-is store bins order) (λ z. free z .search),
+        λ z.
+            let none : q ≡ 0 = sym (said-is q low bit n B k r (S .search .answered)) ∙ z in
+            stored-in q store store′ (S .stored) none (free none .search .ordered .held),
+      )
 
   -- two searches that were not refused
   search-same : (q q′ : ℕ) (bins order : List ℕ) (r : Searched) (bins′ order′ binsₗ orderₗ : List ℕ) (rₗ : Searched) (binsₗ′ orderₗ′ : List ℕ)
@@ -263,10 +274,10 @@ module _ (B : ℕ) (low : Bool) (words : ℕ) (held ws : List ℕ) (ok : validSi
   search-same zero (suc q′) bins order r bins′ order′ binsₗ orderₗ rₗ binsₗ′ orderₗ′ S L chosen z y = absurd (omega (arith, said-is (suc q′) low bit n B k rₗ (L .answered)))
 
   both-same : (bins order : List ℕ) (r : Searched) (bins′ order′ : List ℕ) → DirectSearch s ws first end k bins order r bins′ order′
-      → (lower upper binsₗ orderₗ : List ℕ) (rₗ : Searched) (lower′ upper′ binsₗ′ orderₗ′ : List ℕ)
-      → LayeredSearch s ws first end k lower upper binsₗ orderₗ rₗ lower′ upper′ binsₗ′ orderₗ′
+      → (store binsₗ orderₗ : List ℕ) (rₗ : Searched) (store′ binsₗ′ orderₗ′ : List ℕ)
+      → LayeredSearch s ws first end k store binsₗ orderₗ rₗ store′ binsₗ′ orderₗ′
       → r .refusal ≡ 0 → rₗ .refusal ≡ 0 → Same k r bins′ order′ rₗ binsₗ′ orderₗ′
-  both-same bins order r bins′ order′ S lower upper binsₗ orderₗ rₗ lower′ upper′ binsₗ′ orderₗ′ L z y =
+  both-same bins order r bins′ order′ S store binsₗ orderₗ rₗ store′ binsₗ′ orderₗ′ L z y =
       let d = directRefusal s (length ws) first end k (length bins) (length order) in
       search-same d _ bins order r bins′ order′ binsₗ orderₗ rₗ binsₗ′ orderₗ′ S (L .search)
       (direct-free s (length ws) first end k (length bins) (length order) (sym (said-is d low bit n B k r (S .answered)) ∙ z) .search .width .chosen) z y
@@ -291,11 +302,11 @@ claims B low ws pieces answers s ws′ acquired =
       direct = λ first end k bins order r bins′ order′ P.
           direct-claim B low (length ws) held ws′ (S .valid) (H .lent) (H .within) (H .stored) first end k bins order r bins′ order′
           (subst (λ (q : Sampler). DirectSearch q ws′ first end k bins order r bins′ order′) is P);
-      layered = λ first end k lower upper bins order r lower′ upper′ bins′ order′ P.
-          layered-claim B low (length ws) held ws′ (S .valid) (H .lent) (H .within) (H .stored) first end k lower upper bins order r lower′ upper′ bins′ order′
-          (subst (λ (q : Sampler). LayeredSearch q ws′ first end k lower upper bins order r lower′ upper′ bins′ order′) is P);
-      same = λ first end k bins order r bins′ order′ P lower upper binsₗ orderₗ rₗ lower′ upper′ binsₗ′ orderₗ′ L z y.
+      layered = λ first end k store bins order r store′ bins′ order′ P.
+          layered-claim B low (length ws) held ws′ (S .valid) (H .lent) (H .within) (H .stored) first end k store bins order r store′ bins′ order′
+          (subst (λ (q : Sampler). LayeredSearch q ws′ first end k store bins order r store′ bins′ order′) is P);
+      same = λ first end k bins order r bins′ order′ P store binsₗ orderₗ rₗ store′ binsₗ′ orderₗ′ L z y.
           both-same B low (length ws) held ws′ (S .valid) (H .lent) (H .within) (H .stored) first end k bins order r bins′ order′
-          (subst (λ (q : Sampler). DirectSearch q ws′ first end k bins order r bins′ order′) is P) lower upper binsₗ orderₗ rₗ lower′ upper′ binsₗ′ orderₗ′
-          (subst (λ (q : Sampler). LayeredSearch q ws′ first end k lower upper binsₗ orderₗ rₗ lower′ upper′ binsₗ′ orderₗ′) is L) z y;
+          (subst (λ (q : Sampler). DirectSearch q ws′ first end k bins order r bins′ order′) is P) store binsₗ orderₗ rₗ store′ binsₗ′ orderₗ′
+          (subst (λ (q : Sampler). LayeredSearch q ws′ first end k store binsₗ orderₗ rₗ store′ binsₗ′ orderₗ′) is L) z y;
     }

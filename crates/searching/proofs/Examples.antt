@@ -11,7 +11,7 @@ use Rattle.scoring.specs.Score.{deviation, zOver, zScore, abs}
 use Rattle.ranking.specs.Order.{before, insertBin, sortBins, orderOf}
 use Rattle.ranking.specs.Peak.{peak}
 use Rattle.ranking.specs.Ranking.{inBinOrder, sizeAt, scoreOf}
-use Rattle.layers.proofs.Examples.{stores-of-eight}
+use Rattle.layers.proofs.Examples.{store-of-eight}
 use Rattle.subsets.proofs.Examples.{ranks-of-eight}
 use Rattle.searching.specs.Finding.{winnerOf}
 use Rattle.searching.specs.Examples.{SearchExamples}
@@ -26,5 +26,5 @@ search-examples = record {
   low = record { chosen = refl; ordered = refl; ranked = refl };
   high = record { chosen = refl; ordered = refl; ranked = refl };
   ranks = ranks-of-eight;
-  stores = stores-of-eight;
+  store = store-of-eight;
 }

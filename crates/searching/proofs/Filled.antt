@@ -28,8 +28,11 @@ length-counts bit n bits = length-list (2 ^ length bits) (countIn bit n bits)
 pub length-order : (bit : ℕ → ℕ → ℕ) (n : ℕ) (bits : List ℕ) → length (orderOf (countsOf bit n bits)) ≡ 2 ^ length bits
 length-order bit n bits = order-length (countsOf bit n bits) ∙ length-counts bit n bits
 
--- what a candidate of k bits leaves past the 2 ^ k entries of a buffer
+-- what a candidate of k bits leaves in a buffer: its counts first, and past the 2 ^ k entries what was there
 module _ (bit : ℕ → ℕ → ℕ) (n k : ℕ) (bits l l′ : List ℕ) (size : length bits ≡ k) where
+  pub counts-first : l′ ≡ countsOf bit n bits ++ drop (2 ^ length bits) l → take (2 ^ k) l′ ≡ countsOf bit n bits
+  counts-first e = rw (← size) (ap (take (2 ^ length bits)) e ∙ replaced-first (2 ^ length bits) (countsOf bit n bits) l (length-counts bit n bits))
+
   pub counts-rest : l′ ≡ countsOf bit n bits ++ drop (2 ^ length bits) l → drop (2 ^ k) l′ ≡ drop (2 ^ k) l
   counts-rest e = rw (← size) (ap (drop (2 ^ length bits)) e ∙ replaced-rest (2 ^ length bits) (countsOf bit n bits) l (length-counts bit n bits))
 

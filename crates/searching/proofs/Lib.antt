@@ -1,8 +1,8 @@
 -- Laws that the functions' proofs cite, and the claim.
 pub mod Filled
 pub mod Walking
-pub mod Climbing
 pub mod Refusing
+pub mod Stored
 pub mod Claiming
 pub mod Stretches
 pub mod Reversing

@@ -1,26 +1,26 @@
 -- The refusals of a search: what a refusal of 0 tells, and what is promised where there is one and where there is none.
 use mathlib.Core.Path.{_≡_, refl, ap, subst, _∙_}
 use mathlib.Core.Bool.{Bool, true, false, cond}
-use mathlib.Core.List.{List}
+use mathlib.Core.List.{List, _++_}
 use Prim.Native.Nat.{ℕ, zero, suc, _/_, _^_, _≤_, _<_}
 use native.Mathlib.Nat.{le-trans, min-le-left, min-le-right, div-mul-le-self, mul-comm}
 use native.Mathlib.Omega.{arith}
 use lib.Dec.{leb}
-use lib.ListN.{length}
+use lib.ListN.{length, drop}
 use borrow.Author.Tests.{leb-true}
 use Rattle.counting.specs.Sampling.{blocksOf, samplerRefusal}
 use Rattle.counting.specs.Stretch.{stretchOf, stretchRefusal, stretchBit, span}
 use Rattle.counting.specs.declared.sampling.Sampler.{Sampler}
 use Rattle.counting.specs.declared.stretch.Stretch.{Stretch}
 use Rattle.counting.proofs.Accepted.{Usable, usable, valid-facts, room-blocks}
-use Rattle.layers.specs.Size.{storeRefusal}
-use Rattle.layers.proofs.Sizing.{stores-suffice}
+use Rattle.layers.specs.Store.{storeOf, storeSize, storeRefusal, Roomy}
+use Rattle.layers.proofs.Sizing.{store-suffices}
 use Rattle.subsets.specs.Bits.{validWidth}
 use Rattle.subsets.proofs.Refusing.{width-bounds}
 use Rattle.searching.specs.Finding.{marked, refusedWith}
 use Rattle.searching.specs.Refusal.{orElse, widthRefusal, bufferRefusal, searchRefusal, directRefusal, layeredRefusal}
-use Rattle.searching.specs.Pass.{Searchable, Suffice, Won}
-use Rattle.searching.specs.Search.{Search, StretchSearch, answerOf}
+use Rattle.searching.specs.Pass.{Searchable, Won}
+use Rattle.searching.specs.Search.{Search, StretchSearch, answerOf, storeAfter}
 use Rattle.searching.specs.declared.finding.Finding.{Finding}
 use Rattle.searching.specs.declared.finding.Searched.{Searched}
 
@@ -112,18 +112,18 @@ direct-free s words first end k bins order e =
     let p = neither (searchRefusal s words first end k) _ e in
     record { search = search-free s words first end k (p .0); room = buffer-free k bins order (p .1) }
 
-pub record LayeredFree (s : Sampler) (words first end k a b bins order : ℕ) : Type 0 where
+pub record LayeredFree (s : Sampler) (words first end k a bins order : ℕ) : Type 0 where
   pub search : SearchFree s words first end k
-  pub stores : Suffice (s .«block_size») k a b
+  pub store : Roomy (s .«block_size») k a
   pub room : (2 ^ k ≤ bins) × (2 ^ k ≤ order)
 
-pub layered-free : (s : Sampler) (words first end k a b bins order : ℕ) → layeredRefusal s words first end k a b bins order ≡ 0
-    → LayeredFree s words first end k a b bins order
+pub layered-free : (s : Sampler) (words first end k a bins order : ℕ) → layeredRefusal s words first end k a bins order ≡ 0
+    → LayeredFree s words first end k a bins order
 unfolding layeredRefusal
-layered-free s words first end k a b bins order e =
+layered-free s words first end k a bins order e =
     let p = neither (searchRefusal s words first end k) _ e in
-    let q = neither (storeRefusal (s .«block_size») k a b) _ (p .1) in
-    record { search = search-free s words first end k (p .0); stores = stores-suffice (s .«block_size») k a b (q .0); room = buffer-free k bins order (q .1) }
+    let q = neither (storeRefusal (s .«block_size») k a) _ (p .1) in
+    record { search = search-free s words first end k (p .0); store = store-suffices (s .«block_size») k a (q .0); room = buffer-free k bins order (q .1) }
 
 -- ---- the promise
 
@@ -147,3 +147,16 @@ search-found r s ws first end k x bins order f g bins′ order′ is e won mark 
       counted = w .counted;
       ordered = w .ordered;
     })
+
+-- ---- and of the store
+
+pub store-refused : (r : ℕ) (bit : ℕ → ℕ → ℕ) (n B k : ℕ) (store : List ℕ) → (r ≡ 0 → ⊥) → store ≡ storeAfter r bit n B k store
+store-refused zero bit n B k store h = absurd (h refl)
+store-refused (suc r) bit n B k store h = refl
+
+pub store-filled : (r : ℕ) (s : Sampler) (ws : List ℕ) (first end k : ℕ) (x : Stretch) (store store′ : List ℕ)
+    → x ≡ stretchOf s (length ws) first end → r ≡ 0 → store′ ≡ storeOf (stretchBit x ws) (span x) (x .«block_size») k ++ drop (storeSize (x .«block_size») k) store
+    → let y = stretchOf s (length ws) first end in store′ ≡ storeAfter r (stretchBit y ws) (span y) (s .«block_size») k store
+store-filled r s ws first end k x store store′ is e h =
+    let f = subst (λ (y : Stretch). store′ ≡ storeOf (stretchBit y ws) (span y) (y .«block_size») k ++ drop (storeSize (y .«block_size») k) store) is h in
+    rw e f

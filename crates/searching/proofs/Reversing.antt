@@ -69,13 +69,13 @@ module _ (s : Sampler) (ws : List ℕ) (first end k : ℕ) where
   unfolding directRefusal searchRefusal samplerRefusal stretchRefusal
   direct-same bins order r bins₁ order₁ S r′ bins₁′ order₁′ S′ = search-same _ bins order r bins₁ order₁ S r′ bins₁′ order₁′ S′
 
-  layered-same : (lower upper bins order : List ℕ) (r : Searched) (lower₁ upper₁ bins₁ order₁ : List ℕ)
-      → LayeredSearch s ws first end k lower upper bins order r lower₁ upper₁ bins₁ order₁
-      → (r′ : Searched) (lower₁′ upper₁′ bins₁′ order₁′ : List ℕ) → LayeredSearch (highFirst s) ws first end k lower upper bins order r′ lower₁′ upper₁′ bins₁′ order₁′
-      → SameUnmarked r bins₁ order₁ r′ bins₁′ order₁′
+  layered-same : (store bins order : List ℕ) (r : Searched) (store₁ bins₁ order₁ : List ℕ)
+      → LayeredSearch s ws first end k store bins order r store₁ bins₁ order₁
+      → (r′ : Searched) (store₁′ bins₁′ order₁′ : List ℕ) → LayeredSearch (highFirst s) ws first end k store bins order r′ store₁′ bins₁′ order₁′
+      → SameUnmarked r bins₁ order₁ r′ bins₁′ order₁′ × (store₁ ≡ store₁′)
   unfolding layeredRefusal searchRefusal samplerRefusal stretchRefusal
-  layered-same lower upper bins order r lower₁ upper₁ bins₁ order₁ S r′ lower₁′ upper₁′ bins₁′ order₁′ S′ =
-      search-same _ bins order r bins₁ order₁ (S .search) r′ bins₁′ order₁′ (S′ .search)
+  layered-same store bins order r store₁ bins₁ order₁ S r′ store₁′ bins₁′ order₁′ S′ =
+      (search-same _ bins order r bins₁ order₁ (S .search) r′ bins₁′ order₁′ (S′ .search), S .stored ∙ sym (S′ .stored))
 
 -- ---- after any feeds
 
@@ -97,8 +97,8 @@ low-is-high-reversed B pieces ws answers s ws₁ acquired ws′ answers′ s′ 
           direct-same s ws₁ first end k bins order r bins₁ order₁ S r′ bins₁′ order₁′
           (subst (λ (l : List ℕ). DirectSearch (highFirst s) l first end k bins order r′ bins₁′ order₁′) words
           (subst (λ (q : Sampler). DirectSearch q ws₁′ first end k bins order r′ bins₁′ order₁′) sampler S′));
-      layered = λ first end k lower upper bins order r lower₁ upper₁ bins₁ order₁ S r′ lower₁′ upper₁′ bins₁′ order₁′ S′.
-          layered-same s ws₁ first end k lower upper bins order r lower₁ upper₁ bins₁ order₁ S r′ lower₁′ upper₁′ bins₁′ order₁′
-          (subst (λ (l : List ℕ). LayeredSearch (highFirst s) l first end k lower upper bins order r′ lower₁′ upper₁′ bins₁′ order₁′) words
-          (subst (λ (q : Sampler). LayeredSearch q ws₁′ first end k lower upper bins order r′ lower₁′ upper₁′ bins₁′ order₁′) sampler S′));
+      layered = λ first end k store bins order r store₁ bins₁ order₁ S r′ store₁′ bins₁′ order₁′ S′.
+          layered-same s ws₁ first end k store bins order r store₁ bins₁ order₁ S r′ store₁′ bins₁′ order₁′
+          (subst (λ (l : List ℕ). LayeredSearch (highFirst s) l first end k store bins order r′ store₁′ bins₁′ order₁′) words
+          (subst (λ (q : Sampler). LayeredSearch q ws₁′ first end k store bins order r′ store₁′ bins₁′ order₁′) sampler S′));
     }

@@ -41,7 +41,7 @@ pub whole-stretches : WholeStretches
 unfolding directRefusal layeredRefusal searchRefusal stretchBit
 whole-stretches s words = record {
   direct = λ k bins order. rw (never-outside s) (or-assoc (samplerRefusal s words) _ _);
-  layered = λ k a b bins order. rw (never-outside s) (or-assoc (samplerRefusal s words) _ _);
+  layered = λ k a bins order. rw (never-outside s) (or-assoc (samplerRefusal s words) _ _);
   search = λ ws r k bins order answer bins′ order′ S.
       from-none (λ bit n. Search r (s .«low_first») bit n (s .«block_size») k bins order answer bins′ order′) (sampleOf s ws) (blocksOf s) S;
 }

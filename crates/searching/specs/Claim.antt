@@ -6,7 +6,7 @@ use mathlib.Core.Bool.{Bool}
 use mathlib.Core.List.{List, [], _∷_, _++_}
 use lib.Dec.{T}
 use lib.Ieee.{lt}
-use lib.ListN.{length, take}
+use lib.ListN.{length, take, drop}
 use Rattle.counting.specs.Recording.{recording, refusalsFrom, blocksIn, recordedBit}
 use Rattle.counting.specs.Sample.{onward, countsOf}
 use Rattle.counting.specs.Sampling.{startedOf, startedWords, fedOf, fedWords}
@@ -15,7 +15,7 @@ use Rattle.counting.specs.declared.sampling.Started.{Started}
 use Rattle.counting.specs.declared.sampling.Fed.{Fed}
 use Rattle.ranking.specs.Order.{orderOf}
 use Rattle.ranking.specs.Ranking.{scoreOf}
-use Rattle.layers.specs.Size.{storeSize}
+use Rattle.layers.specs.Store.{storeOf, storeSize}
 use Rattle.subsets.specs.Subsets.{Subset, lexLt, padded}
 use Rattle.searching.specs.Finding.{zOf}
 use Rattle.searching.specs.Search.{DirectSearch, LayeredSearch}
@@ -68,10 +68,13 @@ pub record SearchClaim (B : ℕ) (low : Bool) (held : List ℕ) (first end k : �
 abbrev pub DirectRoom : ℕ → ℕ → List ℕ → List ℕ → Type 0
 DirectRoom B k bins order = (1 ≤ k) × (k ≤ 20) × (k ≤ B) × (2 ^ k ≤ length bins) × (2 ^ k ≤ length order)
 
--- and the stores for the layered one
-abbrev pub LayeredRoom : ℕ → ℕ → List ℕ → List ℕ → List ℕ → List ℕ → Type 0
-LayeredRoom B k lower upper bins order =
-    DirectRoom B k bins order × (storeSize B k ≤ 2 ^ 32) × (storeSize B k ≤ length lower) × (storeSize B k ≤ length upper)
+-- and the store for the layered one
+abbrev pub LayeredRoom : ℕ → ℕ → List ℕ → List ℕ → List ℕ → Type 0
+LayeredRoom B k store bins order = DirectRoom B k bins order × (storeSize B k ≤ 2 ^ 32) × (storeSize B k ≤ length store)
+
+-- the store then holds the all-set counts of the recording's blocks from `first` to before `end`, and past them what was there
+abbrev pub StoredIn : ℕ → Bool → List ℕ → ℕ → ℕ → ℕ → List ℕ → List ℕ → Type 0
+StoredIn B low held first end k store store′ = store′ ≡ storeOf (onward first (recordedBit B low held)) (end - first) B k ++ drop (storeSize B k) store
 
 -- Two searches found the same, and left the same counts and order.
 pub record Same (k : ℕ) (r : Searched) (bins order : List ℕ) (r′ : Searched) (bins′ order′ : List ℕ) : Type 0 where
@@ -79,8 +82,8 @@ pub record Same (k : ℕ) (r : Searched) (bins order : List ℕ) (r′ : Searche
   pub counts : take (2 ^ k) bins ≡ take (2 ^ k) bins′
   pub orders : take (2 ^ k) order ≡ take (2 ^ k) order′
 
--- What holds after an acquisition: a feed was refused just where the plain recording refuses it, each search of a stretch finds the best of its blocks, and
--- where both succeed they are the same.
+-- What holds after an acquisition: a feed was refused just where the plain recording refuses it, each search of a stretch finds the best of its blocks, the
+-- layered one leaves their all-set counts in the store, and where both succeed they are the same.
 pub record Claim (B : ℕ) (low : Bool) (ws : List ℕ) (pieces : List (List ℕ)) (answers : List ℕ) (s : Sampler) (ws′ : List ℕ) : Type 0 where
   pub fed : answers ≡ refusalsFrom B (length ws) [] pieces
   pub direct :
@@ -88,13 +91,14 @@ pub record Claim (B : ℕ) (low : Bool) (ws : List ℕ) (pieces : List (List ℕ
       → DirectSearch s ws′ first end k bins order r bins′ order′
       → SearchClaim B low (recording B (length ws) pieces) first end k (DirectRoom B k bins order) r bins′ order′
   pub layered :
-      (first end k : ℕ) (lower upper bins order : List ℕ) (r : Searched) (lower′ upper′ bins′ order′ : List ℕ)
-      → LayeredSearch s ws′ first end k lower upper bins order r lower′ upper′ bins′ order′
-      → SearchClaim B low (recording B (length ws) pieces) first end k (LayeredRoom B k lower upper bins order) r bins′ order′
+      (first end k : ℕ) (store bins order : List ℕ) (r : Searched) (store′ bins′ order′ : List ℕ)
+      → LayeredSearch s ws′ first end k store bins order r store′ bins′ order′
+      → SearchClaim B low (recording B (length ws) pieces) first end k (LayeredRoom B k store bins order) r bins′ order′
+      × (r .refusal ≡ 0 → StoredIn B low (recording B (length ws) pieces) first end k store store′)
   pub same :
       (first end k : ℕ) (bins order : List ℕ) (r : Searched) (bins′ order′ : List ℕ) → DirectSearch s ws′ first end k bins order r bins′ order′
-      → (lower upper binsₗ orderₗ : List ℕ) (rₗ : Searched) (lower′ upper′ binsₗ′ orderₗ′ : List ℕ)
-      → LayeredSearch s ws′ first end k lower upper binsₗ orderₗ rₗ lower′ upper′ binsₗ′ orderₗ′
+      → (store binsₗ orderₗ : List ℕ) (rₗ : Searched) (store′ binsₗ′ orderₗ′ : List ℕ)
+      → LayeredSearch s ws′ first end k store binsₗ orderₗ rₗ store′ binsₗ′ orderₗ′
       → r .refusal ≡ 0 → rₗ .refusal ≡ 0 → Same k r bins′ order′ rₗ binsₗ′ orderₗ′
 
 -- Theorem: that holds after every acquisition.

@@ -9,7 +9,7 @@ use Rattle.counting.specs.Recording.{blocksIn, recordedBit}
 use Rattle.counting.specs.Sample.{countsOf}
 use Rattle.ranking.specs.Order.{orderOf}
 use Rattle.ranking.specs.Ranking.{zeroScore}
-use Rattle.layers.specs.Examples.{StoresOfEight}
+use Rattle.layers.specs.Examples.{StoreOfEight}
 use Rattle.subsets.specs.Examples.{RanksOfEight}
 use Rattle.searching.specs.Finding.{winnerOf, rankingOf}
 
@@ -38,5 +38,5 @@ pub record SearchExamples : Type 0 where
   pub high : Finds false (0xfe ∷ 0xff ∷ 0xfe ∷ 0xff ∷ []) 1 (0 ∷ []) (1 ∷ 0 ∷ []) 1 two
   -- ranks of pairs
   pub ranks : RanksOfEight
-  -- the stores of width 8
-  pub stores : StoresOfEight
+  -- the store of width 8
+  pub store : StoreOfEight

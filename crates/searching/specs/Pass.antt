@@ -1,5 +1,5 @@
 -- One pass over the subsets: what it needs of its arguments, and what it leaves.
-use Prim.Native.Nat.{ℕ, _-_, _^_, _≤_, _<_, max}
+use Prim.Native.Nat.{ℕ, _^_, _≤_, _<_}
 use mathlib.Core.Path.{_≡_}
 use mathlib.Core.Bool.{false}
 use mathlib.Core.List.{List, _++_}
@@ -7,9 +7,9 @@ use lib.ListN.{length, drop}
 use Rattle.counting.specs.Sample.{countsOf}
 use Rattle.counting.specs.Stretch.{StretchIn}
 use Rattle.counting.specs.declared.stretch.Stretch.{Stretch}
-use Rattle.layers.specs.Layers.{Holds}
-use Rattle.layers.specs.Run.{Run, RunRoom}
-use Rattle.layers.specs.Size.{Stored}
+use Rattle.layers.specs.Gather.{Tops}
+use Rattle.layers.specs.Run.{Shared, Run}
+use Rattle.layers.specs.Store.{Holds}
 use Rattle.ranking.specs.Order.{orderOf}
 use Rattle.searching.specs.Finding.{winnerOf, findingOf}
 use Rattle.searching.specs.declared.finding.Finding.{Finding}
@@ -26,25 +26,29 @@ pub record Searchable (words : ℕ) (x : Stretch) (k : ℕ) : Type 0 where
 abbrev pub BufferRoom : ℕ → List ℕ → List ℕ → Type 0
 BufferRoom k bins order = (2 ^ k ≤ length bins) × (2 ^ k ≤ length order)
 
--- the layer that a candidate's bins are worked out from: none, where every bin is counted, or layer k - 1
-pub record LayerBelow (bit : ℕ → ℕ → ℕ) (n B k : ℕ) (layer : List ℕ) : Type 0 where
-  pub holds : 0 < length layer → Holds bit n B (k - 1) layer
+-- the store that a candidate's bins are worked out from: none, where every bin is counted, or one that holds the counts of the smaller subsets
+pub record FromStore (bit : ℕ → ℕ → ℕ) (n B k : ℕ) (store : List ℕ) : Type 0 where
+  pub holds : 0 < length store → Holds bit n B k store
 
--- where a layer is lent, there is room for the counts and the ranks of a run
-abbrev pub Space : ℕ → ℕ → List ℕ → List ℕ → List ℕ → Type 0
-Space B k layer counts ranks = 0 < length layer → RunRoom B k counts ranks
+-- where a store is lent, there is room for the numbers of a run, and in them the places in the store
+abbrev pub Space : ℕ → ℕ → List ℕ → List ℕ → Type 0
+Space B k store run = 0 < length store → Tops B k run
 
--- and where a candidate is ranked from it, its run stands in them
-pub record Ready (bit : ℕ → ℕ → ℕ) (n B : ℕ) (layer bits counts ranks : List ℕ) : Type 0 where
-  pub space : Space B (length bits) layer counts ranks
-  pub run : 0 < length layer → Run bit n B bits counts ranks
+-- and the run of a candidate stands in them
+abbrev pub Standing : (ℕ → ℕ → ℕ) → ℕ → ℕ → List ℕ → List ℕ → List ℕ → Type 0
+Standing bit n B store bits run = 0 < length store → Run bit n B bits run
+
+-- a candidate can be ranked: its run stands, and the bins that it shares with the others of the run
+pub record Ready (bit : ℕ → ℕ → ℕ) (n B : ℕ) (store bits run bins : List ℕ) : Type 0 where
+  pub stands : Standing bit n B store bits run
+  pub shared : 0 < length store → Shared bit n bits bins
+
+-- past the first 2 ^ k entries both buffers are as before
+abbrev pub PastSame : ℕ → List ℕ → List ℕ → List ℕ → List ℕ → Type 0
+PastSame k bins order bins′ order′ = (drop (2 ^ k) bins′ ≡ drop (2 ^ k) bins) × (drop (2 ^ k) order′ ≡ drop (2 ^ k) order)
 
 -- What a pass over n blocks leaves: the winner as the finding, high bit first, its counts and bin order first in the buffers, and past them what was there.
 pub record Won (bit : ℕ → ℕ → ℕ) (n B k : ℕ) (bins order : List ℕ) (r : Finding) (bins′ order′ : List ℕ) : Type 0 where
   pub found : r ≡ findingOf false bit n B (winnerOf bit n B k)
   pub counted : bins′ ≡ countsOf bit n (winnerOf bit n B k) ++ drop (2 ^ k) bins
   pub ordered : order′ ≡ orderOf (countsOf bit n (winnerOf bit n B k)) ++ drop (2 ^ k) order
-
--- each layer from 1 to max(1, k - 1) can be stored in stores of a and of b entries
-abbrev pub Suffice : ℕ → ℕ → ℕ → ℕ → Type 0
-Suffice B k a b = (d : ℕ) → 1 ≤ d → d ≤ max 1 (k - 1) → Stored B k a b d

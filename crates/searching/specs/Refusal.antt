@@ -5,7 +5,7 @@ use lib.Dec.{leb}
 use Rattle.counting.specs.Sampling.{samplerRefusal}
 use Rattle.counting.specs.Stretch.{stretchRefusal}
 use Rattle.counting.specs.declared.sampling.Sampler.{Sampler}
-use Rattle.layers.specs.Size.{storeRefusal}
+use Rattle.layers.specs.Store.{storeRefusal}
 use Rattle.subsets.specs.Bits.{validWidth}
 
 -- r where it is a refusal, else what comes after it
@@ -30,7 +30,7 @@ searchRefusal s words first end k =
 unfoldable pub directRefusal : Sampler → ℕ → ℕ → ℕ → ℕ → ℕ → ℕ → ℕ
 directRefusal s words first end k bins order = orElse (searchRefusal s words first end k) (bufferRefusal k bins order)
 
--- the layered search: 4, 18, 2, 3, 6, 7, with stores of a and b entries
-unfoldable pub layeredRefusal : Sampler → ℕ → ℕ → ℕ → ℕ → ℕ → ℕ → ℕ → ℕ → ℕ
-layeredRefusal s words first end k a b bins order =
-    orElse (searchRefusal s words first end k) (orElse (storeRefusal (s .«block_size») k a b) (bufferRefusal k bins order))
+-- the layered search: 4, 18, 2, 3, 6, 7, with a store of a entries
+unfoldable pub layeredRefusal : Sampler → ℕ → ℕ → ℕ → ℕ → ℕ → ℕ → ℕ → ℕ
+layeredRefusal s words first end k a bins order =
+    orElse (searchRefusal s words first end k) (orElse (storeRefusal (s .«block_size») k a) (bufferRefusal k bins order))

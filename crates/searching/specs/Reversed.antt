@@ -39,10 +39,10 @@ pub record LowAsHigh (answers : List ℕ) (s : Sampler) (ws : List ℕ) (answers
       → (r′ : Searched) (bins₁′ order₁′ : List ℕ) → DirectSearch s′ ws′ first end k bins order r′ bins₁′ order₁′
       → SameUnmarked r bins₁ order₁ r′ bins₁′ order₁′
   pub layered :
-      (first end k : ℕ) (lower upper bins order : List ℕ) (r : Searched) (lower₁ upper₁ bins₁ order₁ : List ℕ)
-      → LayeredSearch s ws first end k lower upper bins order r lower₁ upper₁ bins₁ order₁
-      → (r′ : Searched) (lower₁′ upper₁′ bins₁′ order₁′ : List ℕ) → LayeredSearch s′ ws′ first end k lower upper bins order r′ lower₁′ upper₁′ bins₁′ order₁′
-      → SameUnmarked r bins₁ order₁ r′ bins₁′ order₁′
+      (first end k : ℕ) (store bins order : List ℕ) (r : Searched) (store₁ bins₁ order₁ : List ℕ)
+      → LayeredSearch s ws first end k store bins order r store₁ bins₁ order₁
+      → (r′ : Searched) (store₁′ bins₁′ order₁′ : List ℕ) → LayeredSearch s′ ws′ first end k store bins order r′ store₁′ bins₁′ order₁′
+      → SameUnmarked r bins₁ order₁ r′ bins₁′ order₁′ × (store₁ ≡ store₁′)
 
 -- Theorem: that holds of all such acquisitions, in as many words.
 abbrev pub LowIsHighReversed : Type 0

@@ -1,4 +1,4 @@
--- What a search promises: its answer, and every entry of the bin and order buffers afterwards.
+-- What a search promises: its answer, and every entry of the lent buffers afterwards.
 use mathlib.Core.Path.{_≡_}
 use Prim.Native.Nat.{ℕ, zero, suc, _^_}
 use mathlib.Core.Bool.{Bool}
@@ -9,7 +9,7 @@ use Rattle.counting.specs.Stretch.{stretchOf, stretchBit, span}
 use Rattle.counting.specs.declared.sampling.Sampler.{Sampler}
 use Rattle.ranking.specs.Order.{orderOf}
 use Rattle.searching.specs.Finding.{winnerOf, findingOf, refusedWith}
-use Rattle.layers.specs.Size.{storeSize}
+use Rattle.layers.specs.Store.{storeOf, storeSize}
 use Rattle.searching.specs.Refusal.{directRefusal, layeredRefusal}
 use Rattle.searching.specs.declared.finding.Searched.{Searched}
 
@@ -45,15 +45,15 @@ abbrev pub DirectSearch : Sampler → List ℕ → ℕ → ℕ → ℕ → List 
 DirectSearch s ws first end k bins order =
     StretchSearch (directRefusal s (length ws) first end k (length bins) (length order)) s ws first end k bins order
 
--- how many entries of a store are free after a search with the refusal r: W, the rest being as lent; none where refused
-abbrev pub freeAfter : ℕ → ℕ → ℕ → ℕ
-freeAfter zero B k = storeSize B k
-freeAfter (suc r) B k = 0
+-- the store afterwards: the all-set counts of the smaller subsets, and past them as lent; all as lent where refused
+abbrev pub storeAfter : ℕ → (ℕ → ℕ → ℕ) → ℕ → ℕ → ℕ → List ℕ → List ℕ
+storeAfter zero bit n B k store = storeOf bit n B k ++ drop (storeSize B k) store
+storeAfter (suc r) bit n B k store = store
 
--- What the layered search promises, of the two stores too.
-pub record LayeredSearch (s : Sampler) (ws : List ℕ) (first end k : ℕ) (lower upper bins order : List ℕ) (answer : Searched) (lower′ upper′ bins′ order′ : List ℕ) : Type 0 where
+-- What the layered search promises, of the store too.
+pub record LayeredSearch (s : Sampler) (ws : List ℕ) (first end k : ℕ) (store bins order : List ℕ) (answer : Searched) (store′ bins′ order′ : List ℕ) : Type 0 where
   pub search :
-      StretchSearch (layeredRefusal s (length ws) first end k (length lower) (length upper) (length bins) (length order)) s ws first end k bins order answer bins′ order′
-  pub kept :
-      let free = freeAfter (layeredRefusal s (length ws) first end k (length lower) (length upper) (length bins) (length order)) (s .«block_size») k in
-      (drop free lower′ ≡ drop free lower) × (drop free upper′ ≡ drop free upper)
+      StretchSearch (layeredRefusal s (length ws) first end k (length store) (length bins) (length order)) s ws first end k bins order answer bins′ order′
+  pub stored :
+      let x = stretchOf s (length ws) first end in
+      store′ ≡ storeAfter (layeredRefusal s (length ws) first end k (length store) (length bins) (length order)) (stretchBit x ws) (span x) (s .«block_size») k store

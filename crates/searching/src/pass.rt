@@ -1,12 +1,12 @@
 // One ordered pass over the k-subsets of a block.
 ghost use mathlib.Core.Path.{_≡_};
-ghost use Prim.Native.Nat.{_^_, _≤_};
-ghost use lib.ListN.{length, drop};
+ghost use Prim.Native.Nat.{_≤_};
+ghost use lib.ListN.{length};
 ghost use Rattle.counting.specs.Stretch.{span, stretchBit};
 ghost use Rattle.ranking.specs.Ranking.{Roots};
 ghost use Rattle.subsets.specs.Subsets.{padded};
 ghost use Rattle.searching.specs.Finding.{winnerOf};
-ghost use Rattle.searching.specs.Pass.{Searchable, BufferRoom, LayerBelow, Space, Won};
+ghost use Rattle.searching.specs.Pass.{Searchable, BufferRoom, FromStore, Space, PastSame, Won};
 use crate::candidate::rank_candidate;
 use crate::finding::Finding;
 use crate::stepping::begin;
@@ -17,20 +17,19 @@ use ranking::ranking::fill_roots;
 use subsets::stepping::first;
 
 // Finds the best k-subset; its bit order is left at high first, since rows have none. Its counts and bin order are left in the buffers, whose entries past 2 ^ k stay.
-// An empty layer means that every bin is counted; else layer k - 1 stands in it. What is left in counts and ranks is free.
+// An empty store means that every bin is counted; else the counts of the smaller subsets stand in it. What is left in run is free.
 pub fn find(
     words: &[u64],
     stretch: Stretch,
     k: usize,
-    layer: &[u32],
-    counts: &mut [u32],
-    ranks: &mut [usize],
+    store: &[u32],
+    run: &mut [u32],
     bins: &mut [u32],
     order: &mut [u32],
 ) -> Finding
     requires { ⌜ Searchable (length (now words)) stretch k ⌝ }
-    requires { ⌜ LayerBelow (stretchBit stretch (now words)) (span stretch) (stretch .«block_size») k (now layer) ⌝ }
-    requires { ⌜ Space (stretch .«block_size») k (now layer) (now counts) (now ranks) ⌝ }
+    requires { ⌜ FromStore (stretchBit stretch (now words)) (span stretch) (stretch .«block_size») k (now store) ⌝ }
+    requires { ⌜ Space (stretch .«block_size») k (now store) (now run) ⌝ }
     requires { ⌜ BufferRoom k (now bins) (now order) ⌝ }
     ensures { λ r. ⌜ Won (stretchBit stretch (now (words .entry))) (span stretch) (stretch .«block_size») k (now (bins .entry)) (now (order .entry)) r (now (bins .exit)) (now (order .exit)) ⌝ }
 {
@@ -41,9 +40,8 @@ pub fn find(
         words,
         stretch,
         k,
-        layer,
-        counts,
-        ranks,
+        store,
+        run,
         bins,
         order,
     )
@@ -63,40 +61,29 @@ fn table_size(k: usize) -> usize
     if k < 8 { 1 << k } else { 256 }
 }
 
-// The same with room for the roots. What is left in roots, counts and ranks is free.
+// The same with room for the roots. What is left in roots and run is free.
 fn find_with(
     roots: &mut [f64],
     words: &[u64],
     stretch: Stretch,
     k: usize,
-    layer: &[u32],
-    counts: &mut [u32],
-    ranks: &mut [usize],
+    store: &[u32],
+    run: &mut [u32],
     bins: &mut [u32],
     order: &mut [u32],
 ) -> Finding
     requires { ⌜ length (now roots) ≤ 256 ⌝ }
     requires { ⌜ Searchable (length (now words)) stretch k ⌝ }
-    requires { ⌜ LayerBelow (stretchBit stretch (now words)) (span stretch) (stretch .«block_size») k (now layer) ⌝ }
-    requires { ⌜ Space (stretch .«block_size») k (now layer) (now counts) (now ranks) ⌝ }
+    requires { ⌜ FromStore (stretchBit stretch (now words)) (span stretch) (stretch .«block_size») k (now store) ⌝ }
+    requires { ⌜ Space (stretch .«block_size») k (now store) (now run) ⌝ }
     requires { ⌜ BufferRoom k (now bins) (now order) ⌝ }
     ensures { λ r. ⌜ Won (stretchBit stretch (now (words .entry))) (span stretch) (stretch .«block_size») k (now (bins .entry)) (now (order .entry)) r (now (bins .exit)) (now (order .exit)) ⌝ }
 {
     fill_roots(roots, span(stretch), k);
-    let bits = pick(words, stretch, k, layer, roots, counts, ranks, bins, order);
+    let bits = pick(words, stretch, k, store, roots, run, bins, order);
     // The pass leaves the last candidate in the buffers.
-    begin(&bits[..k], words, stretch, layer, counts, ranks);
-    let ranking = rank_candidate(
-        &bits[..k],
-        words,
-        stretch,
-        layer,
-        counts,
-        ranks,
-        roots,
-        bins,
-        order,
-    );
+    begin(&bits[..k], words, stretch, store, run, bins, order);
+    let ranking = rank_candidate(&bits[..k], words, stretch, store, run, roots, bins, order);
     Finding {
         block_size: stretch.block_size,
         width: k,
@@ -108,81 +95,61 @@ fn find_with(
 }
 
 // The best k-subset. A block of k bits has one only, which the pass would rank twice.
-// The first 2 ^ k entries of the buffers, counts and ranks are free.
+// The first 2 ^ k entries of the buffers are free, and of run all but the places in the store.
 fn pick(
     words: &[u64],
     stretch: Stretch,
     k: usize,
-    layer: &[u32],
+    store: &[u32],
     roots: &[f64],
-    counts: &mut [u32],
-    ranks: &mut [usize],
+    run: &mut [u32],
     bins: &mut [u32],
     order: &mut [u32],
 ) -> [u32; 20]
     requires { ⌜ Searchable (length (now words)) stretch k ⌝ }
-    requires { ⌜ LayerBelow (stretchBit stretch (now words)) (span stretch) (stretch .«block_size») k (now layer) ⌝ }
-    requires { ⌜ Space (stretch .«block_size») k (now layer) (now counts) (now ranks) ⌝ }
+    requires { ⌜ FromStore (stretchBit stretch (now words)) (span stretch) (stretch .«block_size») k (now store) ⌝ }
+    requires { ⌜ Space (stretch .«block_size») k (now store) (now run) ⌝ }
     requires { ⌜ BufferRoom k (now bins) (now order) ⌝ }
     requires { ⌜ Roots (span stretch) k (now roots) ⌝ }
     ensures { λ r. ⌜ r ≡ padded (winnerOf (stretchBit stretch (now (words .entry))) (span stretch) (stretch .«block_size») k) ⌝ }
-    ensures { λ _. ⌜ (drop (2 ^ k) (now (bins .exit)) ≡ drop (2 ^ k) (now (bins .entry))) × (drop (2 ^ k) (now (order .exit)) ≡ drop (2 ^ k) (now (order .entry))) ⌝ }
+    ensures { λ _. ⌜ Space (stretch .«block_size») k (now (store .entry)) (now (run .exit)) ⌝ }
+    ensures { λ _. ⌜ PastSame k (now (bins .entry)) (now (order .entry)) (now (bins .exit)) (now (order .exit)) ⌝ }
 {
     let block_size = stretch.block_size;
     if k == block_size {
         return first(k);
     }
-    walk(words, stretch, k, layer, roots, counts, ranks, bins, order)
+    walk(words, stretch, k, store, roots, run, bins, order)
 }
 
 // The pass: a later subset takes the place of the best so far only where its z is greater.
-// The first 2 ^ k entries of the buffers, left at the last candidate, are free, and so are counts and ranks.
+// The first 2 ^ k entries of the buffers, left at the last candidate, are free, and of run all but the places in the store.
 fn walk(
     words: &[u64],
     stretch: Stretch,
     k: usize,
-    layer: &[u32],
+    store: &[u32],
     roots: &[f64],
-    counts: &mut [u32],
-    ranks: &mut [usize],
+    run: &mut [u32],
     bins: &mut [u32],
     order: &mut [u32],
 ) -> [u32; 20]
     requires { ⌜ Searchable (length (now words)) stretch k ⌝ }
-    requires { ⌜ LayerBelow (stretchBit stretch (now words)) (span stretch) (stretch .«block_size») k (now layer) ⌝ }
-    requires { ⌜ Space (stretch .«block_size») k (now layer) (now counts) (now ranks) ⌝ }
+    requires { ⌜ FromStore (stretchBit stretch (now words)) (span stretch) (stretch .«block_size») k (now store) ⌝ }
+    requires { ⌜ Space (stretch .«block_size») k (now store) (now run) ⌝ }
     requires { ⌜ BufferRoom k (now bins) (now order) ⌝ }
     requires { ⌜ Roots (span stretch) k (now roots) ⌝ }
     ensures { λ r. ⌜ r ≡ padded (winnerOf (stretchBit stretch (now (words .entry))) (span stretch) (stretch .«block_size») k) ⌝ }
-    ensures { λ _. ⌜ (drop (2 ^ k) (now (bins .exit)) ≡ drop (2 ^ k) (now (bins .entry))) × (drop (2 ^ k) (now (order .exit)) ≡ drop (2 ^ k) (now (order .entry))) ⌝ }
+    ensures { λ _. ⌜ Space (stretch .«block_size») k (now (store .entry)) (now (run .exit)) ⌝ }
+    ensures { λ _. ⌜ PastSame k (now (bins .entry)) (now (order .entry)) (now (bins .exit)) (now (order .exit)) ⌝ }
 {
     let mut bits = first(k);
     let mut best = bits;
-    begin(&bits[..k], words, stretch, layer, counts, ranks);
-    let ranking = rank_candidate(
-        &bits[..k],
-        words,
-        stretch,
-        layer,
-        counts,
-        ranks,
-        roots,
-        bins,
-        order,
-    );
+    begin(&bits[..k], words, stretch, store, run, bins, order);
+    let ranking = rank_candidate(&bits[..k], words, stretch, store, run, roots, bins, order);
     let mut z = ranking.z;
-    while step(&mut bits, k, words, stretch, layer, counts, ranks) {
-        let next = rank_candidate(
-            &bits[..k],
-            words,
-            stretch,
-            layer,
-            counts,
-            ranks,
-            roots,
-            bins,
-            order,
-        );
+    while step(&mut bits, k, words, stretch, store, run, bins, order) {
+        let next = rank_candidate(&bits[..k], words, stretch, store, run, roots, bins, order);
         if z < next.z {
             best = bits;
             z = next.z;

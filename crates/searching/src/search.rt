@@ -3,10 +3,10 @@ ghost use mathlib.Core.Path.{_≡_};
 ghost use Prim.Native.Nat.{_*_, _<_};
 ghost use Rattle.searching.specs.Refusal.{widthRefusal, bufferRefusal, searchRefusal, directRefusal, layeredRefusal};
 ghost use Rattle.searching.specs.Search.{DirectSearch, LayeredSearch};
-use crate::climb::find_layered;
 use crate::finding::Searched;
 use crate::finding::marked;
 use crate::finding::refused;
+use crate::layered::find_layered;
 use crate::pass::find;
 use counting::sampling::Sampler;
 use counting::sampling::sampler_refusal;
@@ -34,15 +34,13 @@ pub fn brute_force_threads(
         return refused(refusal);
     }
     let none: [u32; 0] = [];
-    let mut no_counts: [u32; 0] = [];
-    let mut no_ranks: [usize; 0] = [];
+    let mut no_run: [u32; 0] = [];
     let finding = find(
         words,
         stretch_of(sampler, words.len(), first, end),
         k,
         &none,
-        &mut no_counts,
-        &mut no_ranks,
+        &mut no_run,
         bins,
         order,
     );
@@ -52,21 +50,19 @@ pub fn brute_force_threads(
     }
 }
 
-// The layered search of these blocks: one bin of each subset is counted, and the others are worked out from the layer below.
-// Refusals 4, 18, 2, 3, 6, 7.
-// After success the first W entries of each store are free.
+// The layered search of these blocks: one bin of each subset is counted, and the others are worked out from the counts of its subsets, which are left in the
+// store. Refusals 4, 18, 2, 3, 6, 7.
 pub fn brute_force(
     sampler: Sampler,
     words: &[u64],
     first: usize,
     end: usize,
     k: usize,
-    lower: &mut [u32],
-    upper: &mut [u32],
+    store: &mut [u32],
     bins: &mut [u32],
     order: &mut [u32],
 ) -> Searched
-    ensures { λ r. ⌜ LayeredSearch sampler (now (words .entry)) first end k (now (lower .entry)) (now (upper .entry)) (now (bins .entry)) (now (order .entry)) r (now (lower .exit)) (now (upper .exit)) (now (bins .exit)) (now (order .exit)) ⌝ }
+    ensures { λ r. ⌜ LayeredSearch sampler (now (words .entry)) first end k (now (store .entry)) (now (bins .entry)) (now (order .entry)) r (now (store .exit)) (now (bins .exit)) (now (order .exit)) ⌝ }
 {
     let refusal = layered_refusal(
         sampler,
@@ -74,8 +70,7 @@ pub fn brute_force(
         first,
         end,
         k,
-        lower.len(),
-        upper.len(),
+        store.len(),
         bins.len(),
         order.len(),
     );
@@ -86,8 +81,7 @@ pub fn brute_force(
         words,
         stretch_of(sampler, words.len(), first, end),
         k,
-        lower,
-        upper,
+        store,
         bins,
         order,
     );
@@ -97,26 +91,25 @@ pub fn brute_force(
     }
 }
 
-// 4, 18, 2, 3, 6, 7, or 0 where the layered search can be made with stores of `lower` and `upper` entries.
+// 4, 18, 2, 3, 6, 7, or 0 where the layered search can be made with a store of `store` entries.
 fn layered_refusal(
     sampler: Sampler,
     words: usize,
     first: usize,
     end: usize,
     k: usize,
-    lower: usize,
-    upper: usize,
+    store: usize,
     bins: usize,
     order: usize,
 ) -> u32
     requires { ⌜ 8 * words < 9223372036854775808 ⌝ }
-    ensures { λ r. ⌜ r ≡ layeredRefusal sampler words first end k lower upper bins order ⌝ }
+    ensures { λ r. ⌜ r ≡ layeredRefusal sampler words first end k store bins order ⌝ }
 {
     let refusal = search_refusal(sampler, words, first, end, k);
     if refusal != 0 {
         return refusal;
     }
-    let short = store_refusal(sampler.block_size, k, lower, upper);
+    let short = store_refusal(sampler.block_size, k, store);
     if short != 0 {
         return short;
     }

@@ -1,13 +1,14 @@
 // Cases of searches: B, the bit order, 1 where the low bit comes first, and the number of lent words; the number of pieces, for each its length and its bytes;
-// the number of searches, for each the first block and the end of the stretch, k, the lengths of the bin buffer, the order buffer and the two stores, the
-// number of entries of a store that the layered search may use, and 0 for the sampler last returned, or 1 and another sampler's four fields.
+// the number of searches, for each the first block and the end of the stretch, k, the lengths of the bin buffer, the order buffer and the store, and
+// 0 for the sampler last returned, or 1 and another sampler's four fields.
 // Answer: a line for start and the feeds; for each search, first direct, then layered, a line with what it answers, the finding's bit order last, one with the
-// first 2 ^ k counts, one with the first 2 ^ k entries of the order, and one with how many other entries of the buffers, and of the stores, are no longer as
-// lent. Where it is refused, all entries are such others.
+// first 2 ^ k counts, one with the first 2 ^ k entries of the order, and one with how many other entries of the buffers, and of the store, are no longer as
+// lent, and of the store the sum of its counts, each times its place. Where it is refused, all entries are such others, and the sum is 0.
 ghost use mathlib.Core.Path.{_≡_};
 ghost use lib.ListN.{length};
 use cases::entries::changed;
 use cases::entries::print_first;
+use cases::entries::weighed;
 use cases::feeding::dirty;
 use cases::feeding::record;
 use cases::patterns::print_double;
@@ -16,6 +17,7 @@ use cases::printing::print;
 use cases::reading::at_most;
 use cases::reading::number;
 use counting::sampling::Sampler;
+use layers::size::store_size;
 use ranking::ranking::bin_count;
 use searching::finding::Searched;
 use searching::search::brute_force;
@@ -29,9 +31,7 @@ struct Search {
     k: usize,
     bins: u64,
     order: u64,
-    lower: u64,
-    upper: u64,
-    free: usize,
+    store: u64,
     at: usize,
 }
 
@@ -103,10 +103,8 @@ fn read_search(text: &[u8], at: usize, returned: Sampler) -> Search {
     let width = number(text, end.at);
     let bins = number(text, width.at);
     let order = number(text, bins.at);
-    let lower = number(text, order.at);
-    let upper = number(text, lower.at);
-    let free = number(text, upper.at);
-    let given = given_sampler(text, free.at, returned);
+    let store = number(text, order.at);
+    let given = given_sampler(text, store.at, returned);
     let sampler = given.sampler;
     Search {
         sampler,
@@ -115,9 +113,7 @@ fn read_search(text: &[u8], at: usize, returned: Sampler) -> Search {
         k: width.value as usize,
         bins: bins.value,
         order: order.value,
-        lower: lower.value,
-        upper: upper.value,
-        free: free.value as usize,
+        store: store.value,
         at: given.at,
     }
 }
@@ -170,17 +166,14 @@ fn direct_with(search: Search, words: &[u64], bins: &mut [u32], order: &mut [u32
 fn layered(search: Search, words: &[u64]) {
     let mut bins = buffer();
     let mut order = buffer();
-    let mut lower = store();
-    let mut upper = store();
+    let mut counts = store();
     let a = at_most(search.bins, 1024);
     let b = at_most(search.order, 1024);
-    let c = at_most(search.lower, 335872);
-    let d = at_most(search.upper, 335872);
+    let c = at_most(search.store, 65536);
     layered_with(
         search,
         words,
-        &mut lower[..c],
-        &mut upper[..d],
+        &mut counts[..c],
         &mut bins[..a],
         &mut order[..b],
     );
@@ -189,8 +182,7 @@ fn layered(search: Search, words: &[u64]) {
 fn layered_with(
     search: Search,
     words: &[u64],
-    lower: &mut [u32],
-    upper: &mut [u32],
+    store: &mut [u32],
     bins: &mut [u32],
     order: &mut [u32],
 ) {
@@ -200,14 +192,14 @@ fn layered_with(
         search.first,
         search.end,
         search.k,
-        lower,
-        upper,
+        store,
         bins,
         order,
     );
     print_answer(searched, search.k, bins, order);
-    print(changed(lower, search.free) as u64);
-    print(changed(upper, search.free) as u64);
+    let kept = kept_entries(searched.refusal, search.sampler.block_size, search.k);
+    print(changed(store, kept) as u64);
+    print(weighed(store, kept));
     end_line();
 }
 
@@ -217,11 +209,25 @@ fn buffer() -> [u32; 1024]
     [99; 1024]
 }
 
-// Room for the layers of up to 3 bits of a block of 64.
-fn store() -> [u32; 335872]
-    ensures { λ r. ⌜ 335872 ≡ length r ⌝ }
+// Room for the subsets of up to 3 bits of a block of 64, and entries past them.
+fn store() -> [u32; 65536]
+    ensures { λ r. ⌜ 65536 ≡ length r ⌝ }
 {
-    [99; 335872]
+    [99; 65536]
+}
+
+// How many counts a search leaves in the store: none where it is refused.
+fn kept_entries(refusal: u32, block_size: usize, k: usize) -> usize {
+    if refusal != 0 {
+        return 0;
+    }
+    if block_size > 4096 {
+        return 0;
+    }
+    if k > 20 {
+        return 0;
+    }
+    store_size(block_size, k)
 }
 
 fn print_answer(searched: Searched, k: usize, bins: &[u32], order: &[u32]) {

@@ -10,12 +10,14 @@ pub mod order;
 mod rules;
 pub mod run;
 mod sheet;
+mod stores;
 
 pub use draws::Draws;
 pub use feeding::{capacity_bytes, cut, held, pieces, recording, valid, write_recording, CHUNK_ENDS, SHORT_CHUNK_ENDS};
 pub use order::{high_first, reversed};
 pub use rules::Rules;
 pub use sheet::Sheet;
+pub use stores::{checksum, stored_place, stored_sets};
 
 pub use autotest::public::configurations;
 pub use bottomup::public::{

@@ -11,13 +11,13 @@ search-unread-requires : tie.Need-search-unread-requires
 search-unread-requires c κs = search needs
 
 abbrev start : tie.After-search-unread → tie.Start
-start u = u .before .before .before .before .before .before .before .before
+start u = u .before .before .before .before .before .before .before
 
 returns : tie.Need-returns
 returns c =
     let u = c .before in
     let a = start u .args in
-    layered-unread (a .sampler .now) (a .words .now) (a .first) (a .end) (a .k) (a .lower .now) (a .upper .now) (a .bins .now) (a .order .now) (a .finding .now) (u .search-unread .result) (u .search-unread .ensures) (c .if1 .taken)
+    layered-unread (a .sampler .now) (a .words .now) (a .first) (a .end) (a .k) (a .store .now) (a .bins .now) (a .order .now) (a .finding .now) (u .search-unread .result) (u .search-unread .ensures) (c .if1 .taken)
 
 none : (e : tie.Else1) → let a = start (e .before) .args in searchUnread (a .sampler .now) (length (a .finding .now)) ≡ 0
 none e = sym (e .before .search-unread .ensures) ∙ e .if1 .left
@@ -29,7 +29,7 @@ brute-force-requires : tie.Need-brute-force-requires
 brute-force-requires c κs = search needs
 
 write-finding-requires : tie.Need-write-finding-requires
-write-finding-requires c κs = search-room _ _ (none (c .before .before .before .before .before .before .before .before .before .before .before .before .before .before .before)) .0
+write-finding-requires c κs = search-room _ _ (none (c .before .before .before .before .before .before .before .before .before .before .before .before)) .0
 
 same-length : tie.Need-same-length
 same-length c = search needs
@@ -43,18 +43,15 @@ same-length-3 c = search needs
 same-length-4 : tie.Need-same-length-4
 same-length-4 c = search needs
 
-same-length-5 : tie.Need-same-length-5
-same-length-5 c = search needs
-
 returns-2 : tie.Need-returns-2
 returns-2 c =
     let w = c .before .before in
-    let f = w .before .before .before .before .before .before .before .before .before .before in
-    let r = f .before .before .before .before .before in
+    let f = w .before .before .before .before .before .before .before .before in
+    let r = f .before .before .before .before in
     let e = r .before in
     let a = start (e .before) .args in
-    layered-made (a .sampler .now) (a .words .now) (a .first) (a .end) (a .k) (a .lower .now) (a .upper .now) (a .bins .now) (a .order .now) (a .finding .now)
-    (r .read-sampler .result) (f .brute-force .result) _ _ _ _ (w .write-finding .last .1 .0)
+    layered-made (a .sampler .now) (a .words .now) (a .first) (a .end) (a .k) (a .store .now) (a .bins .now) (a .order .now) (a .finding .now)
+    (r .read-sampler .result) (f .brute-force .result) _ _ _ (w .write-finding .last .1 .0)
     (none e) (r .read-sampler .ensures) (f .brute-force .ensures) (w .write-finding .ensures)
 
 pub jimrawel-brute-force-spec : {M : Type 1} → statement M
@@ -70,5 +67,4 @@ jimrawel-brute-force-spec =
     same-length-2
     same-length-3
     same-length-4
-    same-length-5
     returns-2)

@@ -8,7 +8,7 @@ mod recordings;
 pub use exchange::{sound, Exchange};
 pub use judging::{Judged, Plan, Split};
 pub use rankings::{Rank, Ranking};
-pub use recordings::Recording;
+pub use recordings::{Recording, STORE_SLACK};
 
 use crate::Draws;
 

@@ -5,7 +5,7 @@ use crate::{capacity_bytes, choose, cut, recording, Draws};
 use std::ops::Range;
 
 /// A block size, the number of lent words, the pieces, the stretch that is searched, a width, and how many entries more than enough the buffers and the
-/// stores have: -1 is one too few. A stale sampler says a byte more than capacity.
+/// store have: -1 is one too few. A stale sampler says a byte more than capacity.
 #[derive(Clone, Debug)]
 pub struct Recording {
     pub block_size: usize,
@@ -16,7 +16,7 @@ pub struct Recording {
     pub k: usize,
     pub bins: isize,
     pub order: isize,
-    pub stores: [isize; 2],
+    pub store: isize,
     pub stale: bool,
     /// Whether the low bit comes first.
     pub low_first: bool,
@@ -53,7 +53,7 @@ impl Recording {
             k: if draws.below(200) == 0 { [0, 9.max(block_size + 1), 21, 1 << 40][draws.below(4)] } else { k },
             bins: slack(draws),
             order: slack(draws),
-            stores: [slack(draws), slack(draws)],
+            store: store_slack(draws),
             stale: draws.below(300) == 0,
             low_first: false,
             mark: None,
@@ -72,7 +72,7 @@ impl Recording {
         let pieces = cut(draws, &held, 3);
         let pieces = between(draws, pieces, capacity_bytes(block_size, words));
         let k = 1 + draws.below(3);
-        Recording { block_size, words, pieces, stretch: 0..blocks, k, bins: 0, order: 0, stores: [0, 1], stale: false, low_first: false, mark: None }
+        Recording { block_size, words, pieces, stretch: 0..blocks, k, bins: 0, order: 0, store: 1, stale: false, low_first: false, mark: None }
     }
 
     /// One of few values or of a short period, so that scores tie, about a word's end long, or, one of thirty each, a chunk's or a short chunk's.
@@ -94,9 +94,9 @@ impl Recording {
         let pieces = cut(draws, &held, 3);
         let pieces = between(draws, pieces, capacity_bytes(block_size, words));
         let k = if draws.below(100) == 0 { [0, block_size + 1, 21][draws.below(3)] } else { 1 + draws.below(widest) };
-        let (bins, order, stores) = (slack(draws), slack(draws), [slack(draws), slack(draws)]);
+        let (bins, order, store) = (slack(draws), slack(draws), store_slack(draws));
         let stale = draws.below(300) == 0;
-        Recording { block_size, words, pieces, stretch: 0..blocks, k, bins, order, stores, stale, low_first: false, mark: None }
+        Recording { block_size, words, pieces, stretch: 0..blocks, k, bins, order, store, stale, low_first: false, mark: None }
     }
 
     /// The same, searched whole or, as often, in a drawn stretch.
@@ -202,6 +202,16 @@ fn periodic(draws: &mut Draws, bytes: usize) -> Vec<u8> {
 
 fn slack(draws: &mut Draws) -> isize {
     if draws.below(60) == 0 { -1 } else { draws.below(3) as isize }
+}
+
+/// The most that a store has beyond its size.
+pub const STORE_SLACK: usize = 62;
+
+/// Some stores are longer by many entries, which have to stay as lent. Two draws, as for the two stores that once were lent: what a seed draws after them
+/// is what it was.
+fn store_slack(draws: &mut Draws) -> isize {
+    let (few, many) = (slack(draws), slack(draws));
+    if few.min(many) < 0 { -1 } else { few + 30 * many }
 }
 
 /// The pieces with empty ones and refused ones, a little or much too long, between them.

@@ -1,54 +1,67 @@
--- `size::store_size` meets its contract. The loop's invariant: the largest of the layers below d.
-use Prim.Native.Nat.{_-_, _≤_, max}
+-- `size::store_size` meets its contract. The loop's invariant: the sum over the widths up to d, exact up to 2^32.
+use Prim.Native.Nat.{_-_, _*_, _≤_}
 use mathlib.Core.Path.{_≡_, _∙_}
-use mathlib.Core.Logic.{⊎-elim}
 use native.Mathlib.Omega.{arith}
 use Rattle.subsets.specs.Choose.{upTo}
-use Rattle.layers.specs.Size.{largestLayer}
-use Rattle.layers.proofs.Sizing.{first-layer, larger, not-larger, all-layers}
+use Rattle.layers.specs.Store.{sizeTo, storeSize}
+use Rattle.layers.proofs.Sizing.{size-none, summed, small-choose, all-widths}
 use borrow.Author.Needs.{needs}
 use Rattle.layers.proofs.size.store_size.Statement.{statement}
 use Rattle.layers.proofs.size.store_size.Tie as tie
 
 abbrev Inv-loop : tie.InvT-loop
-Inv-loop block-size k largest₀ d₀ largest d = (2 ≤ d) × (d ≤ max 2 k) × (largest ≡ upTo (largestLayer block-size (d - 1)))
+Inv-loop block-size k most size₀ d₀ size d = (d ≤ most) × (size ≤ d * 4294967297) × (upTo size ≡ upTo (sizeTo block-size d))
 
 abbrev μ-loop : tie.MeasureT-loop
-μ-loop block-size k largest₀ d₀ largest d = max 2 k - d
+μ-loop block-size k most size₀ d₀ size d = most - d
 
-layer-size-requires : tie.Need-layer-size-requires Inv-loop μ-loop
-layer-size-requires c κs = search needs
+widest-requires : tie.Need-widest-requires Inv-loop μ-loop
+widest-requires c κs = search needs
 
 loop-holds : tie.Need-loop-holds Inv-loop μ-loop
-loop-holds c = (search needs, omega arith, first-layer (c .before .args .block-size) (c .layer-size .result) (c .layer-size .ensures))
+loop-holds c = (omega arith, omega arith, omega (arith, size-none (c .before .args .block-size)))
 
-layer-size-requires-2 : tie.Need-layer-size-requires-2 Inv-loop μ-loop
-layer-size-requires-2 c κs = search needs
+-- the widths are at most 19
+few : (l : tie.At-loop Inv-loop μ-loop) → l .before .widest .result ≤ 19
+few l = omega (arith, l .before .widest .ensures, l .before .before .pre)
 
 add-d : tie.Need-add-d Inv-loop μ-loop
-add-d c = search needs
+add-d c = omega (arith, few (c .before))
+
+choose-up-to-requires : tie.Need-choose-up-to-requires Inv-loop μ-loop
+choose-up-to-requires c κs = search needs
+
+-- what a width adds is small
+added : (c : tie.After-choose-up-to Inv-loop μ-loop) → c .choose-up-to .result ≤ 4294967297
+added c = let l = c .before .before in small-choose (l .before .before .args .block-size) _ (c .choose-up-to .result) (c .choose-up-to .ensures)
+
+add-size : tie.Need-add-size Inv-loop μ-loop
+add-size c = let l = c .before .before in omega (arith, added c, l .loop .inv, few l, c .before .loop-test .taken)
 
 loop-less : tie.Need-loop-less Inv-loop μ-loop
-loop-less c = search needs
+loop-less c = omega (arith, c .before .loop-test .taken)
 
 loop-again : tie.Need-loop-again Inv-loop μ-loop
 loop-again c =
-    let l = c .before .before .before in
-    let a = l .before .before .args in
-    let s = c .before .layer-size2 in (
-      omega arith,
-      omega arith,
-      ⊎-elim
-          (λ w. w .1 ∙ larger (a .block-size) (l .loop .d) (l .loop .largest) (s .result) (omega arith) (l .loop .inv .2) (s .ensures) (w .0 .taken))
-          (λ w. w .1 ∙ not-larger (a .block-size) (l .loop .d) (l .loop .largest) (s .result) (omega arith) (l .loop .inv .2) (s .ensures) (w .0 .left))
-          (c .if1 .came),
+    let l = c .before .before in (
+      omega (arith, c .before .loop-test .taken),
+      omega (arith, added c, l .loop .inv),
+      summed (l .before .before .args .block-size) (l .loop .d) (c .choose-up-to .result) (l .loop .size) (c .choose-up-to .ensures) (l .loop .inv .2),
     )
 
-returns : tie.Need-returns Inv-loop μ-loop
-returns c =
+-- the sum over all widths
+whole : (c : tie.After-loop Inv-loop μ-loop)
+    → let l = c .before in upTo (l .loop .size) ≡ upTo (storeSize (l .before .before .args .block-size) (l .before .before .args .k))
+whole c =
     let l = c .before in
-    let a = l .before .before .args in
-    all-layers (a .block-size) (a .k) (l .loop .d) (l .loop .largest) (l .loop .inv .0) (c .loop-test .left) (l .loop .inv .1) (l .loop .inv .2)
+    let all : l .loop .d ≡ l .before .widest .result = omega (arith, l .loop .inv .0, c .loop-test .left) in
+    all-widths (l .before .before .args .block-size) (l .before .before .args .k) (l .loop .d) (l .loop .size) (all ∙ l .before .widest .ensures) (l .loop .inv .2)
+
+returns : tie.Need-returns Inv-loop μ-loop
+returns c = omega (arith, whole (c .before), c .if1 .taken)
+
+returns-2 : tie.Need-returns-2 Inv-loop μ-loop
+returns-2 c = omega (arith, whole (c .before), c .if1 .left)
 
 pub store-size-spec : {M : Type 1} → statement M
 store-size-spec =
@@ -56,10 +69,12 @@ store-size-spec =
     (tie.spec
     Inv-loop
     μ-loop
-    layer-size-requires
+    widest-requires
     loop-holds
-    layer-size-requires-2
     add-d
+    choose-up-to-requires
+    add-size
     loop-less
     loop-again
-    returns)
+    returns
+    returns-2)

@@ -16,7 +16,7 @@ use Rattle.replay.proofs.replay.replay.Tie as tie
 
 -- where the function was entered
 abbrev entry : tie.Else1 → tie.Start
-entry e = e .before .before .before .before .before .before .before .before .before
+entry e = e .before .before .before .before .before .before .before .before
 
 none : (e : tie.Else1) → let a = entry e .args in replayRefusal (a .block-size) (length (a .recording .now)) (a .lengths .now) (a .k) (length (a .bins .now)) (length (a .order .now)) ≡ 0
 none e = sym (e .before .replay-refusal .ensures) ∙ e .if1 .left
@@ -52,9 +52,9 @@ refused-replay-requires c κs = search needs
 
 returns : tie.Need-returns
 returns c =
-    let a = c .before .before .before .before .before .before .before .before .before .before .args in
+    let a = c .before .before .before .before .before .before .before .before .before .args in
     let is = c .before .before .replay-refusal .ensures in
-    as-lent _ (a .block-size) (a .low-first) (cut (a .recording .now) (a .lengths .now)) (a .k) (a .words .now) (a .first .now) (a .second .now) (a .bins .now) (a .order .now)
+    as-lent _ (a .block-size) (a .low-first) (cut (a .recording .now) (a .lengths .now)) (a .k) (a .words .now) (a .store .now) (a .bins .now) (a .order .now)
     (c .refused-replay .result) (λ z. c .before .if1 .taken (is ∙ z)) (c .refused-replay .ensures ∙ ap refusedReplay is)
 
 start-requires : tie.Need-start-requires
@@ -65,7 +65,7 @@ feed-pieces-requires c κs = free (c .before .before .before .before .before) .a
 
 search-layered-requires : tie.Need-search-layered-requires
 search-layered-requires c κs =
-    let f = c .before .before .before .before .before .before .before in
+    let f = c .before .before .before .before .before .before in
     let e = f .before .before .before .before .before .before in
     let a = entry e .args in
     subst (λ (q : State). searchRefusal (q .sampler) (length (q .words)) 0 (blocksOf (q .sampler)) (a .k) ≡ 0) (sym (arrived f))
@@ -82,7 +82,7 @@ agreeing-requires c κs = search needs
 
 same-length : tie.Need-same-length
 same-length c =
-    let f = c .before .before .before .before .before .before .before .before .before .before .before .before .before .before .before .before .before .before .before .before .before .before .before .before .before .before .before .before in
+    let f = c .before .before .before .before .before .before .before .before .before .before .before .before .before .before .before .before .before .before .before .before .before .before .before .before .before in
     f .feed-pieces .kept .1 .0 ∙ f .before .before .before .before .start .kept .1 .1 .0
 
 same-length-2 : tie.Need-same-length-2
@@ -94,25 +94,22 @@ same-length-3 c = search needs
 same-length-4 : tie.Need-same-length-4
 same-length-4 c = search needs
 
-same-length-5 : tie.Need-same-length-5
-same-length-5 c = search needs
-
 returns-2 : tie.Need-returns-2
 returns-2 c =
     let agreed = c .before .before in
     let d = agreed .before .before .before .before .before in
     let n = d .before .before .before .before .blocks2 in
-    let l = d .before .before .before .before .before .before .before .before .before .before .before .before .before in
-    let f = l .before .before .before .before .before .before .before .before in
+    let l = d .before .before .before .before .before .before .before .before .before .before .before in
+    let f = l .before .before .before .before .before .before .before in
     let e = f .before .before .before .before .before .before in
     let a = entry e .args in
-    replayed (a .block-size) (a .low-first) (a .words .now) (cut (a .recording .now) (a .lengths .now)) (length (a .recording .now)) (a .lengths .now) (a .k) (a .first .now) (a .second .now)
+    replayed (a .block-size) (a .low-first) (a .words .now) (cut (a .recording .now) (a .lengths .now)) (length (a .recording .now)) (a .lengths .now) (a .k) (a .store .now)
     (a .bins .now) (a .order .now) (free e) (f .feed-pieces .result) (l .search-layered .result) (d .brute-force-threads .result) (f .feed-pieces .last .1 .0)
-    (l .search-layered .last .1 .1 .1 .0) (l .search-layered .last .1 .1 .1 .1 .0) (l .search-layered .last .1 .1 .1 .1 .1 .0) (l .search-layered .last .1 .1 .1 .1 .1 .1 .0)
+    (l .search-layered .last .1 .1 .1 .0) (l .search-layered .last .1 .1 .1 .1 .0) (l .search-layered .last .1 .1 .1 .1 .1 .0)
     (d .brute-force-threads .last .1 .1 .1 .1 .1 .0) (d .brute-force-threads .last .1 .1 .1 .1 .1 .1 .0) (arrived f) (l .search-layered .ensures)
-    (subst (λ (m : ℕ). DirectSearch (f .feed-pieces .result .sampler) (f .feed-pieces .last .1 .0) 0 m (a .k) (l .search-layered .last .1 .1 .1 .1 .1 .0) (l .search-layered .last .1 .1 .1 .1 .1 .1 .0)
+    (subst (λ (m : ℕ). DirectSearch (f .feed-pieces .result .sampler) (f .feed-pieces .last .1 .0) 0 m (a .k) (l .search-layered .last .1 .1 .1 .1 .0) (l .search-layered .last .1 .1 .1 .1 .1 .0)
     (d .brute-force-threads .result) (d .brute-force-threads .last .1 .1 .1 .1 .1 .0) (d .brute-force-threads .last .1 .1 .1 .1 .1 .1 .0)) (n .ensures) (d .brute-force-threads .ensures))
-    (l .search-layered .kept .1 .1 .1 .1 .1 .0) (l .search-layered .kept .1 .1 .1 .1 .1 .1 .0) (counted f) (agreed .agreeing .result) (agreed .agreeing .ensures) _ (none e)
+    (l .search-layered .kept .1 .1 .1 .1 .0) (l .search-layered .kept .1 .1 .1 .1 .1 .0) (counted f) (agreed .agreeing .result) (agreed .agreeing .ensures) _ (none e)
 
 pub replay-spec : {M : Type 1} → statement M
 replay-spec =
@@ -131,5 +128,4 @@ replay-spec =
     same-length-2
     same-length-3
     same-length-4
-    same-length-5
     returns-2)

@@ -1,4 +1,4 @@
--- `replay::search_layered` meets its contract: where the stores do not suffice the search is left out, and else it is made.
+-- `replay::search_layered` meets its contract: where the store does not suffice the search is left out, and else it is made.
 use mathlib.Core.Path.{subst}
 use Prim.Native.Nat.{ℕ, _<_}
 use native.Mathlib.Omega.{arith}
@@ -18,7 +18,7 @@ free s = search-free (s .args .sampler) (length (s .args .words .now)) 0 (blocks
 
 store-refusal-requires : tie.Need-store-refusal-requires
 store-refusal-requires c κs =
-    let s = c .before .before .before .before .before in
+    let s = c .before .before .before .before in
     let small : s .args .sampler .«block_size» < 4294967296 = omega (arith, valid-facts _ (free s .usable .valid)) in
     (small, free s .width .width)
 
@@ -28,9 +28,9 @@ refused-requires c κs = search needs
 returns : tie.Need-returns
 returns c =
     let d = c .before .before in
-    let s = d .before .before .before .before .before .before in
+    let s = d .before .before .before .before .before in
     let a = s .args in
-    left-out (a .sampler) (a .words .now) (blocksOf (a .sampler)) (a .k) (a .first .now) (a .second .now) (a .bins .now) (a .order .now) (c .refused .result) (d .store-refusal .result)
+    left-out (a .sampler) (a .words .now) (blocksOf (a .sampler)) (a .k) (a .store .now) (a .bins .now) (a .order .now) (c .refused .result) (d .store-refusal .result)
     (s .pre) (d .store-refusal .ensures) (c .before .if1 .taken) (c .refused .ensures)
 
 blocks-requires : tie.Need-blocks-requires
@@ -48,17 +48,14 @@ same-length-2 c = search needs
 same-length-3 : tie.Need-same-length-3
 same-length-3 c = search needs
 
-same-length-4 : tie.Need-same-length-4
-same-length-4 c = search needs
-
 returns-2 : tie.Need-returns-2
 returns-2 c =
-    let found = c .before .before .before .before .before .before .before .before in
-    let n = found .before .before .before .before .before in
-    let a = n .before .before .before .before .before .before .before .before .args in
+    let found = c .before .before .before .before .before .before in
+    let n = found .before .before .before .before in
+    let a = n .before .before .before .before .before .before .before .args in
     let r = found .brute-force in
-    subst (λ (m : ℕ). LayeredSearch (a .sampler) (a .words .now) 0 m (a .k) (a .first .now) (a .second .now) (a .bins .now) (a .order .now) (r .result)
-    (r .last .1 .1 .1 .1 .1 .0) (r .last .1 .1 .1 .1 .1 .1 .0) (r .last .1 .1 .1 .1 .1 .1 .1 .0) (r .last .1 .1 .1 .1 .1 .1 .1 .1 .0)) (n .blocks2 .ensures) (r .ensures)
+    subst (λ (m : ℕ). LayeredSearch (a .sampler) (a .words .now) 0 m (a .k) (a .store .now) (a .bins .now) (a .order .now) (r .result)
+    (r .last .1 .1 .1 .1 .1 .0) (r .last .1 .1 .1 .1 .1 .1 .0) (r .last .1 .1 .1 .1 .1 .1 .1 .0)) (n .blocks2 .ensures) (r .ensures)
 
 pub search-layered-spec : {M : Type 1} → statement M
 search-layered-spec =
@@ -72,5 +69,4 @@ search-layered-spec =
     same-length
     same-length-2
     same-length-3
-    same-length-4
     returns-2)

@@ -11,9 +11,6 @@ dirty-requires c κs = search needs
 store-requires : tie.Need-store-requires
 store-requires c κs = search needs
 
-store-requires-2 : tie.Need-store-requires-2
-store-requires-2 c κs = search needs
-
 buffer-requires : tie.Need-buffer-requires
 buffer-requires c κs = search needs
 
@@ -32,38 +29,29 @@ at-most-requires-3 c κs = search needs
 at-most-requires-4 : tie.Need-at-most-requires-4
 at-most-requires-4 c κs = search needs
 
-at-most-requires-5 : tie.Need-at-most-requires-5
-at-most-requires-5 c κs = search needs
-
 array-borrow-prefix-words : tie.Need-array-borrow-prefix-words
 array-borrow-prefix-words c = search needs
 
 slice-aggregate-answer : tie.Need-slice-aggregate-answer
 slice-aggregate-answer c = simp length-take (omega arith)
 
-array-borrow-prefix-first : tie.Need-array-borrow-prefix-first
-array-borrow-prefix-first c = search needs
+array-borrow-prefix-counts : tie.Need-array-borrow-prefix-counts
+array-borrow-prefix-counts c = search needs
 
 slice-aggregate-answer-2 : tie.Need-slice-aggregate-answer-2
 slice-aggregate-answer-2 c = simp length-take (omega arith)
 
-array-borrow-prefix-second : tie.Need-array-borrow-prefix-second
-array-borrow-prefix-second c = search needs
+array-borrow-prefix-bins : tie.Need-array-borrow-prefix-bins
+array-borrow-prefix-bins c = search needs
 
 slice-aggregate-answer-3 : tie.Need-slice-aggregate-answer-3
 slice-aggregate-answer-3 c = simp length-take (omega arith)
 
-array-borrow-prefix-bins : tie.Need-array-borrow-prefix-bins
-array-borrow-prefix-bins c = search needs
-
-slice-aggregate-answer-4 : tie.Need-slice-aggregate-answer-4
-slice-aggregate-answer-4 c = simp length-take (omega arith)
-
 array-borrow-prefix-order : tie.Need-array-borrow-prefix-order
 array-borrow-prefix-order c = search needs
 
-slice-aggregate-answer-5 : tie.Need-slice-aggregate-answer-5
-slice-aggregate-answer-5 c = simp length-take (omega arith)
+slice-aggregate-answer-4 : tie.Need-slice-aggregate-answer-4
+slice-aggregate-answer-4 c = simp length-take (omega arith)
 
 answer-requires : tie.Need-answer-requires
 answer-requires c κs = search needs
@@ -77,23 +65,19 @@ lend-spec =
     (tie.spec
     dirty-requires
     store-requires
-    store-requires-2
     buffer-requires
     buffer-requires-2
     at-most-requires
     at-most-requires-2
     at-most-requires-3
     at-most-requires-4
-    at-most-requires-5
     array-borrow-prefix-words
     slice-aggregate-answer
-    array-borrow-prefix-first
+    array-borrow-prefix-counts
     slice-aggregate-answer-2
-    array-borrow-prefix-second
-    slice-aggregate-answer-3
     array-borrow-prefix-bins
-    slice-aggregate-answer-4
+    slice-aggregate-answer-3
     array-borrow-prefix-order
-    slice-aggregate-answer-5
+    slice-aggregate-answer-4
     answer-requires
     returns)

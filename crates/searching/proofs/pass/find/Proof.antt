@@ -22,8 +22,8 @@ slice-aggregate-find-with c =
 
 find-with-requires : tie.Need-find-with-requires
 find-with-requires c κs =
-    let t = c .before .before .before .before .before in
-    let s = t .before .before .before .before .before .before .before .before in
+    let t = c .before .before .before .before in
+    let s = t .before .before .before .before .before .before .before in
     let m = t .table-size .result in
     let small : length (take m (t .before .no-roots .result)) ≤ 256 = omega (arith, length-take m (t .before .no-roots .result), t .table-size .ensures) in
     (small, (s .pre .0, (s .pre .1 .0, (s .pre .1 .1 .0, s .pre .1 .1 .1))))
@@ -36,9 +36,6 @@ same-length-2 c = search needs
 
 same-length-3 : tie.Need-same-length-3
 same-length-3 c = search needs
-
-same-length-4 : tie.Need-same-length-4
-same-length-4 c = search needs
 
 returns : tie.Need-returns
 returns c = search needs
@@ -55,5 +52,4 @@ find-spec =
     same-length
     same-length-2
     same-length-3
-    same-length-4
     returns)

@@ -1,5 +1,5 @@
 -- `pass::find_with` meets its contract: the pick gives the winner, and ranking it once more leaves its counts and order in the buffers.
-use mathlib.Core.Path.{_≡_, refl, sym, ap, subst, _∙_}
+use mathlib.Core.Path.{_≡_, sym, ap, subst, _∙_}
 use mathlib.Core.Bool.{false}
 use mathlib.Core.List.{List, _++_}
 use Prim.Native.Nat.{ℕ, _^_, _≤_}
@@ -12,14 +12,13 @@ use Rattle.ranking.specs.Order.{orderOf}
 use Rattle.ranking.specs.Ranking.{Roots}
 use Rattle.subsets.specs.Subsets.{Subset}
 use Rattle.searching.specs.Finding.{winnerOf, rankingOf}
-use Rattle.searching.specs.Pass.{Space}
-use Rattle.layers.proofs.Running.{room-stays}
+use Rattle.searching.specs.Pass.{PastSame}
 use Rattle.searching.proofs.Walking.{winner-optimal, winner-front}
 use Rattle.searching.proofs.pass.find_with.Statement.{statement}
 use Rattle.searching.proofs.pass.find_with.Tie as tie
 
 span-requires : tie.Need-span-requires
-span-requires c κs = c .before .before .before .before .before .before .before .before .pre .1 .0 .rows .1
+span-requires c κs = search needs
 
 fill-roots-requires : tie.Need-fill-roots-requires
 fill-roots-requires c κs = search needs
@@ -27,16 +26,19 @@ fill-roots-requires c κs = search needs
 -- ---- the places: the roots made, the pass made, the winner's run begun, the winner ranked
 
 abbrev begin-of : tie.After-fill-roots → tie.Start
-begin-of f = f .before .before .before .before .before .before .before .before .before .before
+begin-of f = f .before .before .before .before .before .before .before .before .before
 
 abbrev filled : tie.After-pick → tie.After-fill-roots
-filled w = w .before .before .before .before .before .before .before .before
+filled w = w .before .before .before .before .before .before .before
 
 abbrev start : tie.After-pick → tie.Start
 start w = begin-of (filled w)
 
 abbrev passed : tie.After-begin → tie.After-pick
-passed g = g .before .before .before .before .before .before .before .before .before .before .before .before
+passed g = g .before .before .before .before .before .before .before .before .before .before .before
+
+abbrev ran : tie.After-rank-candidate → tie.After-begin
+ran r = r .before .before .before .before .before .before .before .before .before .before .before .before
 
 -- the roots of as many blocks
 roots : (f : tie.After-fill-roots) → Roots (span (begin-of f .args .stretch)) (begin-of f .args .k) (f .fill-roots .last .0)
@@ -47,7 +49,7 @@ winner s = winnerOf (stretchBit (s .args .stretch) (s .args .words .now)) (span 
 
 pick-requires : tie.Need-pick-requires
 pick-requires c κs =
-    let f = c .before .before .before .before .before .before .before in
+    let f = c .before .before .before .before .before .before in
     let s = begin-of f in
     (s .pre .1 .0, (s .pre .1 .1 .0, (s .pre .1 .1 .1 .0, (s .pre .1 .1 .1 .1, roots f))))
 
@@ -62,46 +64,39 @@ winner-is s = winner-optimal (stretchBit (s .args .stretch) (s .args .words .now
 size : (w : tie.After-pick) → length (take (start w .args .k) (w .pick .result)) ≡ start w .args .k
 size w = ap length (is-winner w) ∙ winner-is (start w) .size
 
--- there is room for its run still
-space : (w : tie.After-pick)
-    → let a = start w .args in Space (a .stretch .«block_size») (a .k) (a .layer .now) (w .pick .last .1 .1 .1 .1 .1 .0) (w .pick .last .1 .1 .1 .1 .1 .1 .0)
-space w h =
-    let s = start w in
-    let a = s .args in
-    room-stays (a .stretch .«block_size») (a .k) (a .k) (a .counts .now) (a .ranks .now) (w .pick .last .1 .1 .1 .1 .1 .0) (w .pick .last .1 .1 .1 .1 .1 .1 .0)
-    (w .pick .kept .1 .1 .1 .1 .1 .0) (w .pick .kept .1 .1 .1 .1 .1 .1 .0) refl (s .pre .1 .1 .1 .0 h)
-
 array-share-prefix-bits : tie.Need-array-share-prefix-bits
 array-share-prefix-bits c = search needs
 
 slice-aggregate-begin : tie.Need-slice-aggregate-begin
-slice-aggregate-begin c = sym (size (c .before .before .before .before .before .before .before .before .before))
+slice-aggregate-begin c = sym (size (c .before .before .before .before .before .before .before))
 
 begin-requires : tie.Need-begin-requires
 begin-requires c κs =
-    let w = c .before .before .before .before .before .before .before .before .before .before .before in
+    let w = c .before .before .before .before .before .before .before .before .before .before in
     let s = start w in
-    rw (is-winner w, winner-is s .size) (s .pre .1 .0, (winner-is s, (s .pre .1 .1 .0, space w)))
+    let counted : 2 ^ s .args .k ≤ length (w .pick .last .1 .1 .1 .1 .1 .1 .0) = omega (arith, s .pre .1 .1 .1 .1, w .pick .kept) in
+    let ordered : 2 ^ s .args .k ≤ length (w .pick .last .1 .1 .1 .1 .1 .1 .1 .0) = omega (arith, s .pre .1 .1 .1 .1, w .pick .kept) in
+    rw (is-winner w, winner-is s .size) (s .pre .1 .0, (winner-is s, (s .pre .1 .1 .0, (w .pick .ensures .1 .0, (counted, ordered)))))
 
 array-share-prefix-bits-2 : tie.Need-array-share-prefix-bits-2
-array-share-prefix-bits-2 c = let w = passed (c .before .before .before .before) in omega (arith, size w, length-take (start w .args .k) (w .pick .result))
+array-share-prefix-bits-2 c = let w = passed (c .before .before .before .before .before .before) in omega (arith, size w, length-take (start w .args .k) (w .pick .result))
 
 slice-aggregate-rank-candidate : tie.Need-slice-aggregate-rank-candidate
-slice-aggregate-rank-candidate c = sym (size (passed (c .before .before .before .before .before)))
+slice-aggregate-rank-candidate c = sym (size (passed (c .before .before .before .before .before .before .before)))
 
 rank-candidate-requires : tie.Need-rank-candidate-requires
 rank-candidate-requires c κs =
-    let g = c .before .before .before .before .before .before .before .before .before .before in
+    let g = c .before .before .before .before .before .before .before .before .before .before .before in
     let w = passed g in
     let s = start w in
     let k = size w in
     let won : Subset (s .args .stretch .«block_size») (s .args .k) (take (s .args .k) (w .pick .result)) = rw (is-winner w) (winner-is s) in
-    let counted : 2 ^ s .args .k ≤ length (w .pick .last .1 .1 .1 .1 .1 .1 .1 .0) = omega (arith, s .pre .1 .1 .1 .1, w .pick .kept) in
-    let ordered : 2 ^ s .args .k ≤ length (w .pick .last .1 .1 .1 .1 .1 .1 .1 .1 .0) = omega (arith, s .pre .1 .1 .1 .1, w .pick .kept) in
-    (rw k (s .pre .1 .0), (rw k won, (rw k (s .pre .1 .1 .0), (g .begin .ensures, (rw k (counted, ordered), rw k (roots (filled w)))))))
+    let counted : 2 ^ s .args .k ≤ length (g .begin .last .1 .1 .1 .1 .1 .0) = omega (arith, s .pre .1 .1 .1 .1, w .pick .kept, g .begin .kept) in
+    let ordered : 2 ^ s .args .k ≤ length (g .begin .last .1 .1 .1 .1 .1 .1 .0) = omega (arith, s .pre .1 .1 .1 .1, w .pick .kept, g .begin .kept) in
+    (rw k (s .pre .1 .0), (rw k won, (rw k (s .pre .1 .1 .0), (g .begin .ensures .0, (rw k (counted, ordered), rw k (roots (filled w)))))))
 
 same-length : tie.Need-same-length
-same-length c = filled (passed (c .before .before .before .before .before .before .before .before .before .before .before .before .before .before .before)) .fill-roots .kept .0
+same-length c = filled (passed (ran (c .before .before .before .before))) .fill-roots .kept .0
 
 same-length-2 : tie.Need-same-length-2
 same-length-2 c = search needs
@@ -112,18 +107,20 @@ same-length-3 c = search needs
 same-length-4 : tie.Need-same-length-4
 same-length-4 c = search needs
 
-same-length-5 : tie.Need-same-length-5
-same-length-5 c = search needs
-
 returns : tie.Need-returns
 returns c =
     let at-rank = c .before .before .before .before in
-    let w = passed (at-rank .before .before .before .before .before .before .before .before .before .before .before) in
+    let g = ran at-rank in
+    let w = passed g in
     let s = start w in
     let a = s .args in
     let bit = stretchBit (a .stretch) (a .words .now) in
     let r = at-rank .rank-candidate in
     let rank = r .ensures .0 ∙ ap (rankingOf bit (span (a .stretch))) (is-winner w) in
+    let bins = g .begin .last .1 .1 .1 .1 .1 .0 in
+    let order = g .begin .last .1 .1 .1 .1 .1 .1 .0 in
+    let past : PastSame (a .k) (w .pick .last .1 .1 .1 .1 .1 .1 .0) (w .pick .last .1 .1 .1 .1 .1 .1 .1 .0) bins order =
+    subst (λ (m : ℕ). PastSame m (w .pick .last .1 .1 .1 .1 .1 .1 .0) (w .pick .last .1 .1 .1 .1 .1 .1 .1 .0) bins order) (size w) (g .begin .ensures .1) in
     record {
       found = λ i. record {
         «block_size» = a .stretch .«block_size»;
@@ -134,11 +131,11 @@ returns c =
         «low_first» = false;
       };
       counted = r .ensures .1 .0
-          ∙ (λ i. countsOf bit (span (a .stretch)) (is-winner w i) ++ drop (2 ^ size w i) (w .pick .last .1 .1 .1 .1 .1 .1 .1 .0))
-          ∙ ap (λ (l : List ℕ). countsOf bit (span (a .stretch)) (winner s) ++ l) (w .pick .ensures .1 .0);
+          ∙ (λ i. countsOf bit (span (a .stretch)) (is-winner w i) ++ drop (2 ^ size w i) bins)
+          ∙ ap (λ (l : List ℕ). countsOf bit (span (a .stretch)) (winner s) ++ l) (past .0 ∙ w .pick .ensures .1 .1 .0);
       ordered = r .ensures .1 .1
-          ∙ (λ i. orderOf (countsOf bit (span (a .stretch)) (is-winner w i)) ++ drop (2 ^ size w i) (w .pick .last .1 .1 .1 .1 .1 .1 .1 .1 .0))
-          ∙ ap (λ (l : List ℕ). orderOf (countsOf bit (span (a .stretch)) (winner s)) ++ l) (w .pick .ensures .1 .1);
+          ∙ (λ i. orderOf (countsOf bit (span (a .stretch)) (is-winner w i)) ++ drop (2 ^ size w i) order)
+          ∙ ap (λ (l : List ℕ). orderOf (countsOf bit (span (a .stretch)) (winner s)) ++ l) (past .1 ∙ w .pick .ensures .1 .1 .1);
     }
 
 pub find-with-spec : {M : Type 1} → statement M
@@ -158,5 +155,4 @@ find-with-spec =
     same-length-2
     same-length-3
     same-length-4
-    same-length-5
     returns)

@@ -14,10 +14,12 @@ first-requires c κs = search needs
 returns : tie.Need-returns
 returns c =
     let t = c .before in
-    let s = t .before .before .before .before .before .before .before .before in
+    let s = t .before .before .before .before .before .before .before in
     let a = s .args in
-    let all : a .k ≡ a .stretch .«block_size» = omega (arith, t .if1 .taken) in
-    (c .first .ensures ∙ ap padded (sym (only-winner (stretchBit (a .stretch) (a .words .now)) (span (a .stretch)) (a .stretch .«block_size») (a .k) all)), (refl, refl))
+    let all : a .k ≡ a .stretch .«block_size» = omega (arith, t .if1 .taken) in (
+      c .first .ensures ∙ ap padded (sym (only-winner (stretchBit (a .stretch) (a .words .now)) (span (a .stretch)) (a .stretch .«block_size») (a .k) all)),
+      (s .pre .1 .1 .0, (refl, refl)),
+    )
 
 walk-requires : tie.Need-walk-requires
 walk-requires c κs = search needs
@@ -30,9 +32,6 @@ same-length-2 c = search needs
 
 same-length-3 : tie.Need-same-length-3
 same-length-3 c = search needs
-
-same-length-4 : tie.Need-same-length-4
-same-length-4 c = search needs
 
 returns-2 : tie.Need-returns-2
 returns-2 c = search needs
@@ -47,5 +46,4 @@ pick-spec =
     same-length
     same-length-2
     same-length-3
-    same-length-4
     returns-2)

@@ -44,15 +44,12 @@ slice-aggregate-find c = search needs
 slice-aggregate-find-2 : tie.Need-slice-aggregate-find-2
 slice-aggregate-find-2 c = search needs
 
-slice-aggregate-find-3 : tie.Need-slice-aggregate-find-3
-slice-aggregate-find-3 c = search needs
-
 find-requires : tie.Need-find-requires
 find-requires c κs =
-    let e = c .before .before .before .before .before .before in
+    let e = c .before .before .before .before .before in
     let a = start e .args in
     let f = free e in
-    let x = c .before .before .before .before .before .stretch-of in
+    let x = c .before .before .before .before .stretch-of in
     (searchable (a .sampler) (length (a .words .now)) (a .first) (a .end) (a .k) (x .result) (x .ensures) (f .search), (record { holds = λ h. absurd (omega arith) }, (λ h. absurd (omega arith), f .room)))
 
 same-length : tie.Need-same-length
@@ -66,8 +63,8 @@ marked-requires c κs = search needs
 
 returns-2 : tie.Need-returns-2
 returns-2 c =
-    let at-find = c .before .before .before .before .before .before .before in
-    let at-stretch = at-find .before .before .before .before .before .before in
+    let at-find = c .before .before .before .before .before .before in
+    let at-stretch = at-find .before .before .before .before .before in
     let e = at-stretch .before in
     let a = start e .args in
     let x = at-stretch .stretch-of in
@@ -83,7 +80,6 @@ brute-force-threads-spec =
     stretch-of-requires
     slice-aggregate-find
     slice-aggregate-find-2
-    slice-aggregate-find-3
     find-requires
     marked-requires
     same-length

@@ -4,7 +4,7 @@ use Prim.Native.Nat.{_<_}
 use native.Mathlib.Omega.{arith}
 use borrow.Author.Needs.{needs}
 use Rattle.counting.proofs.Accepted.{valid-facts}
-use Rattle.layers.specs.Size.{storeRefusal}
+use Rattle.layers.specs.Store.{storeRefusal}
 use Rattle.searching.specs.Refusal.{orElse, searchRefusal, bufferRefusal, layeredRefusal}
 use Rattle.searching.proofs.Refusing.{SearchFree, or-first, or-next, search-free}
 use Rattle.searching.proofs.search.layered_refusal.Statement.{statement}
@@ -19,7 +19,7 @@ returns c =
     let a = c .before .before .args in
     let is = c .before .search-refusal .ensures in
     is
-    ∙ or-first (searchRefusal (a .sampler) (a .words) (a .first) (a .end) (a .k)) (orElse (storeRefusal (a .sampler .«block_size») (a .k) (a .lower) (a .upper)) (bufferRefusal (a .k) (a .bins) (a .order)))
+    ∙ or-first (searchRefusal (a .sampler) (a .words) (a .first) (a .end) (a .k)) (orElse (storeRefusal (a .sampler .«block_size») (a .k) (a .store)) (bufferRefusal (a .k) (a .bins) (a .order)))
     (λ z. c .if1 .taken (is ∙ z))
 
 none : (e : tie.Else1) → let a = e .before .before .args in searchRefusal (a .sampler) (a .words) (a .first) (a .end) (a .k) ≡ 0
@@ -39,7 +39,7 @@ unfolding layeredRefusal
 returns-2 c =
     let a = c .before .before .before .before .args in
     let is = c .before .store-refusal .ensures in
-    is ∙ or-first (storeRefusal (a .sampler .«block_size») (a .k) (a .lower) (a .upper)) (bufferRefusal (a .k) (a .bins) (a .order)) (λ z. c .if2 .taken (is ∙ z))
+    is ∙ or-first (storeRefusal (a .sampler .«block_size») (a .k) (a .store)) (bufferRefusal (a .k) (a .bins) (a .order)) (λ z. c .if2 .taken (is ∙ z))
     ∙ or-next _ _ (none (c .before .before))
 
 buffer-refusal-requires : tie.Need-buffer-refusal-requires

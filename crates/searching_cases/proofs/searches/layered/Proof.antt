@@ -14,9 +14,6 @@ buffer-requires-2 c κs = search needs
 store-requires : tie.Need-store-requires
 store-requires c κs = search needs
 
-store-requires-2 : tie.Need-store-requires-2
-store-requires-2 c κs = search needs
-
 at-most-requires : tie.Need-at-most-requires
 at-most-requires c κs = search needs
 
@@ -26,32 +23,23 @@ at-most-requires-2 c κs = search needs
 at-most-requires-3 : tie.Need-at-most-requires-3
 at-most-requires-3 c κs = search needs
 
-at-most-requires-4 : tie.Need-at-most-requires-4
-at-most-requires-4 c κs = search needs
-
-array-borrow-prefix-lower : tie.Need-array-borrow-prefix-lower
-array-borrow-prefix-lower c = search needs
+array-borrow-prefix-counts : tie.Need-array-borrow-prefix-counts
+array-borrow-prefix-counts c = search needs
 
 slice-aggregate-layered-with : tie.Need-slice-aggregate-layered-with
 slice-aggregate-layered-with c = simp length-take (omega arith)
 
-array-borrow-prefix-upper : tie.Need-array-borrow-prefix-upper
-array-borrow-prefix-upper c = search needs
+array-borrow-prefix-bins : tie.Need-array-borrow-prefix-bins
+array-borrow-prefix-bins c = search needs
 
 slice-aggregate-layered-with-2 : tie.Need-slice-aggregate-layered-with-2
 slice-aggregate-layered-with-2 c = simp length-take (omega arith)
 
-array-borrow-prefix-bins : tie.Need-array-borrow-prefix-bins
-array-borrow-prefix-bins c = search needs
-
-slice-aggregate-layered-with-3 : tie.Need-slice-aggregate-layered-with-3
-slice-aggregate-layered-with-3 c = simp length-take (omega arith)
-
 array-borrow-prefix-order : tie.Need-array-borrow-prefix-order
 array-borrow-prefix-order c = search needs
 
-slice-aggregate-layered-with-4 : tie.Need-slice-aggregate-layered-with-4
-slice-aggregate-layered-with-4 c = simp length-take (omega arith)
+slice-aggregate-layered-with-3 : tie.Need-slice-aggregate-layered-with-3
+slice-aggregate-layered-with-3 c = simp length-take (omega arith)
 
 layered-with-requires : tie.Need-layered-with-requires
 layered-with-requires c κs = search needs
@@ -66,18 +54,14 @@ layered-spec =
     buffer-requires
     buffer-requires-2
     store-requires
-    store-requires-2
     at-most-requires
     at-most-requires-2
     at-most-requires-3
-    at-most-requires-4
-    array-borrow-prefix-lower
+    array-borrow-prefix-counts
     slice-aggregate-layered-with
-    array-borrow-prefix-upper
-    slice-aggregate-layered-with-2
     array-borrow-prefix-bins
-    slice-aggregate-layered-with-3
+    slice-aggregate-layered-with-2
     array-borrow-prefix-order
-    slice-aggregate-layered-with-4
+    slice-aggregate-layered-with-3
     layered-with-requires
     returns)

@@ -28,16 +28,16 @@ pub fn all(draws: &mut Draws) -> Vec<(Case, bool)> {
     cases.extend(run::sample().filter_map(case_of_run));
     for (case, _) in &cases {
         assert!(case.recording.len() <= BYTES && case.words <= WORDS && case.lengths.len() <= LENGTHS);
-        assert!(case.bins.max(case.order) <= BUFFER && case.first.max(case.second) <= STORE);
+        assert!(case.bins.max(case.order) <= BUFFER && case.store <= STORE);
     }
     cases
 }
 
-/// A replay of these pieces with buffers and stores of just the entries needed, and `more` each.
+/// A replay of these pieces with buffers and a store of just the entries needed, and `more` each.
 fn replay(block_size: usize, k: usize, words: usize, pieces: &[Vec<u8>], more: usize) -> Case {
     let (bins, store) = ((1 << k) + more, store_entries(block_size, k) + more);
     let lengths = pieces.iter().map(Vec::len).collect();
-    Case { block_size, k, words, bins, order: bins, first: store, second: store, recording: pieces.concat(), lengths }
+    Case { block_size, k, words, bins, order: bins, store, recording: pieces.concat(), lengths }
 }
 
 /// Cut in a few pieces, with an empty one among them.
@@ -110,14 +110,14 @@ fn refused(draws: &mut Draws) -> Vec<Case> {
 
 /// Every two faults that a case can have together, and all of them.
 fn pairs(good: &Case) -> Vec<Case> {
-    // In the order of the refusals; the last, stores that are too short, is none. Two widths cannot both stand: 2 with 3 is made below.
+    // In the order of the refusals; the last, a store that is too short, is none. Two widths cannot both stand: 2 with 3 is made below.
     let faults: [fn(&mut Case); 6] = [
         |case| case.lengths = vec![8, 5],
         |case| case.block_size = 12,
         |case| case.k = 0,
         |case| case.k = 13,
         |case| case.bins = 0,
-        |case| (case.first, case.second) = (0, 0),
+        |case| case.store = 0,
     ];
     let mut cases = Vec::new();
     for i in 0..faults.len() {
@@ -130,7 +130,7 @@ fn pairs(good: &Case) -> Vec<Case> {
     }
     cases.push(Case { k: 21, ..good.clone() });
     cases.push(Case { k: 21, order: 0, ..good.clone() });
-    cases.push(Case { block_size: 4104, k: 21, bins: 0, order: 0, first: 0, second: 0, words: 0, lengths: vec![], ..good.clone() });
+    cases.push(Case { block_size: 4104, k: 21, bins: 0, order: 0, store: 0, words: 0, lengths: vec![], ..good.clone() });
     cases
 }
 
@@ -167,16 +167,17 @@ fn full(draws: &mut Draws) -> Vec<Case> {
     cases
 }
 
-/// Stores one entry too short, empty, just enough and longer, each beside the other, over one recording.
+/// Stores one entry too short, without the last layer, empty, just enough and longer, over one recording.
 fn stores(draws: &mut Draws) -> Vec<Case> {
     let mut cases = Vec::new();
     for (i, (block_size, k)) in [(8, 1), (8, 4), (8, 8), (16, 2), (16, 3), (32, 3)].into_iter().enumerate() {
         let size = block_size / 8;
         let held = telling(draws, block_size, k, [5, 2][i % 2], 11 * size + size / 2);
         let good = replay(block_size, k, block_size + 1, &few(draws, &held), i % 2);
-        let w = store_entries(block_size, k);
-        for (first, second) in [(w, w), (w - 1, w), (w, w - 1), (0, w), (w + 40, 0), (w + 2, w), (w, w + 3), (w + 5, w + 1)] {
-            cases.push(Case { first, second, ..good.clone() });
+        let enough = store_entries(block_size, k);
+        let last = choose(block_size, 1.max(k - 1));
+        for store in [enough, enough - 1, enough - last, 0, enough + 1, enough + 40] {
+            cases.push(Case { store, ..good.clone() });
         }
     }
     cases
@@ -269,24 +270,23 @@ fn longest_block(draws: &mut Draws) -> Vec<Case> {
     let long = recording(draws, 5, 3 * 512 + 100);
     let held = recording(draws, 0, 8 * 9 + 3);
     let wide = replay(64, 3, 70, &few(draws, &held), 2);
-    vec![replay(4096, 1, 4099, &few(draws, &long), 1), Case { second: wide.second - 3, ..wide.clone() }, wide]
+    vec![replay(4096, 1, 4099, &few(draws, &long), 1), Case { store: wide.store - 3, ..wide.clone() }, wide]
 }
 
-/// A short recording of the differential run in four pieces or more, replayed as it was cut there; buffers and stores have one entry too few, just enough,
-/// or one or two more.
+/// A short recording of the differential run in four pieces or more, replayed as it was cut there; a buffer has one entry too few, just enough, or one or two
+/// more, the store also some more.
 fn case_of_run(case: run::Case) -> Option<(Case, bool)> {
     let run::Case::Recording(drawn) = case else { return None };
     let (block_size, words, k) = (drawn.block_size, drawn.words, drawn.k);
     let searchable = drawn.searchable();
     // As much as the program's arrays hold, and little to print.
-    if drawn.pieces.len() < 4 || drawn.bytes() > 80 || words > 100 || (searchable && (k > 5 || store_entries(block_size, k) > STORE - 2)) {
+    if drawn.pieces.len() < 4 || drawn.bytes() > 80 || words > 100 || (searchable && (k > 5 || store_entries(block_size, k) > STORE - run::STORE_SLACK)) {
         return None;
     }
     // Where the width is refused, any buffer will do.
     let (m, store) = if searchable { (1 << k, store_entries(block_size, k)) } else { (2, 2) };
     let entries = |needed: usize, more: isize| (needed as isize + more) as usize;
-    let [first, second] = drawn.stores.map(|more| entries(store, more));
-    let (bins, order) = (entries(m, drawn.bins), entries(m, drawn.order));
+    let (bins, order, store) = (entries(m, drawn.bins), entries(m, drawn.order), entries(store, drawn.store));
     let lengths = drawn.pieces.iter().map(Vec::len).collect();
-    Some((Case { block_size, k, words, bins, order, first, second, recording: drawn.pieces.concat(), lengths }, drawn.low_first))
+    Some((Case { block_size, k, words, bins, order, store, recording: drawn.pieces.concat(), lengths }, drawn.low_first))
 }

@@ -13,8 +13,7 @@ struct Case {
     words: usize,
     bins: usize,
     order: usize,
-    first: usize,
-    second: usize,
+    store: usize,
     recording: Vec<u8>,
     lengths: Vec<usize>,
 }
@@ -27,13 +26,15 @@ fn main() {
     let mut sheet = Sheet::default();
     sheet.note("Cases of the replay crate. Made, with their answers, by `tools/answers/run replay REFERENCE`; no answer is our own program's.");
     sheet.note("Findings: the reference's bottomup on the bytes held, with threads = 1; where the layered search runs, they agree where threads = 0 gives the same.");
-    sheet.note("Counts: its evaluate_histogram on those bytes. Refusals, refused feeds, W and the words by the rules in that tool, where the row bits below n are");
-    sheet.note("held against its transform_data. Every word is lent with all ones, every other entry as 99.");
+    sheet.note("Counts: its evaluate_histogram on those bytes; of a store its multi_eval on transform_data of them. Refusals, refused feeds, the entries S that a store");
+    sheet.note("needs and the words by the rules in that tool, where the row bits below n are held against transform_data. Every word is lent with all ones, every other");
+    sheet.note("entry as 99.");
     sheet.note(&order::note("the last ones as they are drawn"));
-    sheet.note("Each: B, the bit order, k, how many words, bins, entries of the order and of both stores are lent, and W (0 where the layered search does not run); the");
-    sheet.note("number of the recording's bytes, and each; the number of lengths, and each.");
+    sheet.note("Each: B, the bit order, k, how many words, bins, entries of the order and of the store are lent; the number of the recording's bytes, and each; the");
+    sheet.note("number of lengths, and each.");
     sheet.note("Answer: a line with refusal, refused feeds, whether the layered search ran, whether the findings agree, B, width, 20 bits, division, the pattern of z");
-    sheet.note("and the bit order; all words; the whole bin buffer; the whole order buffer; how many entries of each store, past W, are no longer as lent.");
+    sheet.note("and the bit order; all words; the whole bin buffer; the whole order buffer; a line with how many entries of the store, where the layered search ran of");
+    sheet.note("those past S, are no longer as lent, and, where it ran, the sum of (i + 1) x entry i for i below S, modulo 2^64, else 0.");
     sheet.note(&run::note());
     let cases = cases::all(&mut Draws::new(10));
     sheet.case([cases.len()]);
@@ -43,9 +44,9 @@ fn main() {
     sheet.save();
 }
 
-/// W: the entries of a store for the layered search of width k.
+/// The entries of the store for the layered search of width k.
 fn store_entries(block_size: usize, k: usize) -> usize {
-    (1..=1.max(k - 1)).map(|d| choose(block_size, d).saturating_mul(1 << d)).max().unwrap()
+    (1..=1.max(k - 1)).map(|d| choose(block_size, d)).fold(0, usize::saturating_add)
 }
 
 /// The first condition that applies, in the order of a replay's refusals; 0 where none does.
@@ -104,10 +105,7 @@ fn words_after(case: &Case, low_first: bool, held: &[u8]) -> Vec<u64> {
 
 fn write_case(sheet: &mut Sheet, case: &Case, low_first: bool) {
     let refusal = refusal(case);
-    let store = if refusal == 0 { store_entries(case.block_size, case.k) } else { 0 };
-    let layered = refusal == 0 && case.first >= store && case.second >= store;
-    let free = if layered { store } else { 0 };
-    sheet.case([case.block_size, low_first as usize, case.k, case.words, case.bins, case.order, case.first, case.second, free]);
+    sheet.case([case.block_size, low_first as usize, case.k, case.words, case.bins, case.order, case.store]);
     sheet.list(&case.recording);
     sheet.list(&case.lengths);
     if refusal != 0 {
@@ -116,16 +114,17 @@ fn write_case(sheet: &mut Sheet, case: &Case, low_first: bool) {
         sheet.answer(vec![WORD; case.words]);
         sheet.answer(vec![ENTRY; case.bins]);
         sheet.answer(vec![ENTRY; case.order]);
+        sheet.answer([0, 0]);
     } else {
-        answer(sheet, case, low_first, layered);
+        answer(sheet, case, low_first);
     }
-    sheet.answer([0, 0]);
 }
 
-/// The lines but the last of a case that is not refused.
-fn answer(sheet: &mut Sheet, case: &Case, low_first: bool, layered: bool) {
+/// The lines of a case that is not refused.
+fn answer(sheet: &mut Sheet, case: &Case, low_first: bool) {
     let (held, refused) = fed(case);
     let blocks = high_first(&held, low_first);
+    let layered = case.store >= store_entries(case.block_size, case.k);
     let finding = bottomup(&blocks, case.block_size, case.k, 1).unwrap();
     let agree = !layered || bottomup(&blocks, case.block_size, case.k, 0).unwrap() == finding;
     let mut line = vec![0, refused as u64, layered as u64, agree as u64, finding.block_size as u64, finding.bits.len() as u64];
@@ -140,4 +139,6 @@ fn answer(sheet: &mut Sheet, case: &Case, low_first: bool, layered: bool) {
     let mut order = finding.order;
     order.resize(case.order, ENTRY);
     sheet.answer(order);
+    let sum = if layered { checksum(&transform_data(&blocks, case.block_size), case.block_size, case.k) } else { 0 };
+    sheet.answer([0, sum]);
 }

@@ -6,6 +6,9 @@ use answers::*;
 
 mod stretches;
 
+/// The most entries of a store, for which the program has room.
+const STORE: usize = 65_536;
+
 /// A recording, and the searches made after it.
 #[derive(Clone)]
 struct Case {
@@ -15,7 +18,7 @@ struct Case {
     searches: Vec<Search>,
 }
 
-/// The stretch where it is not from 0 to the sampler's n, the width, the lengths of the buffers and stores, and the sampler where it is not the one last
+/// The stretch where it is not from 0 to the sampler's n, the width, the lengths of the buffers and the store, and the sampler where it is not the one last
 /// returned.
 #[derive(Clone)]
 struct Search {
@@ -23,8 +26,7 @@ struct Search {
     k: usize,
     bins: usize,
     order: usize,
-    lower: usize,
-    upper: usize,
+    store: usize,
     sampler: Option<Sampler>,
 }
 
@@ -55,13 +57,13 @@ pub fn write(sheet: &mut Sheet, draws: &mut Draws) {
     cases.extend(stretches::cases(draws));
     cases.extend(run::sample().filter_map(case_of_run));
     sheet.note("Searches: the reference's bottomup on the blocks of the stretch alone, with threads = 1 for the direct and 0 for the layered search; the winner's counts by its evaluate_histogram.");
-    sheet.note("Refusals, and the entries W that a store needs, by the rules in that tool.");
+    sheet.note("Counts of a store: its multi_eval on transform_data of these blocks. Refusals, and the entries S that a store needs, by the rules in that tool.");
     sheet.note(&order::note("the last ones as they are drawn"));
     sheet.note("Each: B, the bit order and the number of lent words; the number of pieces, and for each its length and its bytes; the number of searches, and for each");
-    sheet.note("first and end, k, the lengths of bin buffer, order buffer and both stores, W (0 where the layered search is refused), and 0, or 1 with another sampler's");
-    sheet.note("B, words, T and bit order. Answer: a line for the calls of start and feed; for each search, first direct, then layered: a line with refusal, B, width, 20");
-    sheet.note("bits, division, the pattern of z and the bit order; a line with the counts, one with the order, and one with how many other entries of each buffer (and");
-    sheet.note("store, past W) are no longer as lent.");
+    sheet.note("first and end, k, the lengths of bin buffer, order buffer and store, and 0, or 1 with another sampler's B, words, T and bit order. Answer: a line for");
+    sheet.note("the calls of start and feed; for each search, first direct, then layered: a line with refusal, B, width, 20 bits, division, the pattern of z and the bit");
+    sheet.note("order; a line with the counts, one with the order, and one with how many other entries of each buffer, layered of the store past S too, are no longer as");
+    sheet.note("lent; layered, there follows the sum of (i + 1) x entry i of the store for i below S, modulo 2^64, or 0 where the search is refused.");
     sheet.note(&run::note());
     sheet.case([cases.len()]);
     for (case, low_first) in &cases {
@@ -76,16 +78,16 @@ fn reverse(case: &mut Case) {
     }
 }
 
-/// W: the entries of a store for the layered search of width k.
+/// The entries of the store for the layered search of width k.
 fn store_entries(block_size: usize, k: usize) -> u128 {
-    (1..=1.max(k - 1)).map(|d| binomial(block_size, d).saturating_mul(1 << d)).max().unwrap()
+    (1..=1.max(k - 1)).map(|d| binomial(block_size, d)).fold(0, u128::saturating_add)
 }
 
-/// A search with buffers and stores of just the entries needed, and `more` each.
+/// A search with buffers and a store of just the entries needed, and `more` each.
 fn search(block_size: usize, k: usize, more: usize) -> Search {
     let m = 1 << k;
     let store = store_entries(block_size, k) as usize;
-    Search { stretch: None, k, bins: m + more, order: m + more, lower: store + more, upper: store + more, sampler: None }
+    Search { stretch: None, k, bins: m + more, order: m + more, store: store + more, sampler: None }
 }
 
 /// The searches of the rules' examples; and bytes of which one bit alone is biased, whose number the bit order tells.
@@ -122,37 +124,37 @@ fn refused(draws: &mut Draws) -> Vec<Case> {
     let mut searches: Vec<Search> = bad.iter().map(|sampler| Search { sampler: Some(*sampler), ..good.clone() }).collect();
     // 4 before 2, 3, 6 and 7.
     for (k, bins, store) in [(0, 5, 16), (21, 5, 16), (9, 600, 5000), (3, 8, 1), (3, 7, 1000), (3, 7, 1)] {
-        searches.push(Search { stretch: None, k, bins, order: bins, lower: store, upper: store, sampler: Some(bad[6]) });
+        searches.push(Search { stretch: None, k, bins, order: bins, store, sampler: Some(bad[6]) });
     }
     // 2 alone, and before 6 and 7; a width above both limits is refused with 2.
     for (k, bins, store) in [(0, 5, 16), (21, 300, 5000), (usize::MAX, 300, 5000), (0, 0, 0), (21, 0, 0)] {
-        searches.push(Search { stretch: None, k, bins, order: bins, lower: store, upper: store, sampler: None });
+        searches.push(Search { stretch: None, k, bins, order: bins, store, sampler: None });
     }
     // 3 alone, and before 6 and 7.
     for (k, bins, store) in [(9, 600, 5000), (20, 600, 5000), (9, 600, 100), (9, 511, 5000), (9, 0, 0)] {
-        searches.push(Search { stretch: None, k, bins, order: bins, lower: store, upper: store, sampler: None });
+        searches.push(Search { stretch: None, k, bins, order: bins, store, sampler: None });
     }
-    // 6: either store, by one entry or by all; then before 7.
-    for (lower, upper) in [(1792, 1792), (1791, 1792), (1792, 1791), (1791, 1791), (0, 1792), (1792, 0)] {
-        searches.push(Search { stretch: None, k: 8, bins: 257, order: 257, lower, upper, sampler: None });
+    // 6: by one entry, by the last layer, or by all; then before 7. What is enough for width 7 is not for 8.
+    for (k, store) in [(8, 254), (8, 253), (8, 246), (8, 0), (7, 246), (7, 245), (2, 8), (2, 7), (1, 8), (1, 7)] {
+        searches.push(Search { stretch: None, k, bins: 257, order: 257, store, sampler: None });
     }
     for (bins, order) in [(255, 256), (256, 255)] {
-        searches.push(Search { stretch: None, k: 8, bins, order, lower: 1791, upper: 1792, sampler: None });
+        searches.push(Search { stretch: None, k: 8, bins, order, store: 253, sampler: None });
     }
     // 7: either buffer, by one entry or by all.
     for (bins, order) in [(255, 256), (256, 255), (255, 255), (0, 256), (256, 0), (256, 256)] {
-        searches.push(Search { stretch: None, k: 8, bins, order, lower: 1793, upper: 1793, sampler: None });
+        searches.push(Search { stretch: None, k: 8, bins, order, store: 255, sampler: None });
     }
     for (bins, order) in [(1, 2), (2, 1), (0, 0)] {
-        searches.push(Search { stretch: None, k: 1, bins, order, lower: 17, upper: 17, sampler: None });
+        searches.push(Search { stretch: None, k: 1, bins, order, store: 9, sampler: None });
     }
     searches.push(good);
     cases.push(Case { block_size: 8, words: 17, pieces: held, searches });
     // After a refused start.
     cases.push(Case { block_size: 12, words: 24, pieces: vec![vec![1]], searches: vec![search(8, 1, 1), Search { k: 0, ..search(8, 1, 0) }] });
-    // W above 2^32, where buffers that are too short keep the direct search from starting.
-    for (block_size, k) in [(128, 6), (512, 5), (4096, 4), (4096, 20)] {
-        let short = Search { stretch: None, k, bins: (1 << k.min(8)) - 1, order: 300, lower: 5000, upper: 5000, sampler: None };
+    // A sum above 2^32, where buffers that are too short keep the direct search from starting.
+    for (block_size, k) in [(128, 7), (512, 6), (4096, 4), (4096, 20)] {
+        let short = Search { stretch: None, k, bins: (1 << k.min(8)) - 1, order: 300, store: 5000, sampler: None };
         cases.push(Case { block_size, words: block_size, pieces: vec![draws.bytes(3)], searches: vec![short] });
     }
     cases
@@ -255,23 +257,23 @@ fn long(draws: &mut Draws) -> Vec<Case> {
     cases
 }
 
-/// A short recording of the differential run with its search, of all blocks and of the drawn stretch where that is another. Buffers and stores have one entry
-/// too few, just enough, or one or two more.
+/// A short recording of the differential run with its search, of all blocks and of the drawn stretch where that is another. A buffer has one entry too few,
+/// just enough, or one or two more; the store also some more.
 fn case_of_run(case: run::Case) -> Option<(Case, bool)> {
     let run::Case::Recording(drawn) = case else { return None };
     let (block_size, words, k) = (drawn.block_size, drawn.words, drawn.k);
     let searchable = drawn.searchable();
     let store = if searchable { store_entries(block_size, k) } else { 2 };
     // As much as the program's buffers hold, and little to print: the more bins, the fewer bytes.
-    if drawn.bytes() > 200 || words > 8192 || (searchable && (k > 8 || drawn.bytes() << k > 1200)) || store > 300_000 {
+    if drawn.bytes() > 200 || words > 8192 || (searchable && (k > 8 || drawn.bytes() << k > 1200)) || store > (STORE - run::STORE_SLACK) as u128 {
         return None;
     }
     let entries = |needed: usize, more: isize| (needed as isize + more) as usize;
     // Where the width is refused, any buffer will do.
     let m = if searchable { 1 << k } else { 2 };
-    let [lower, upper] = drawn.stores.map(|more| entries(store as usize, more));
     let past = Sampler { block_size, words, taken: capacity_bytes(block_size, words) + 1, turned: false };
-    let search = Search { stretch: None, k, bins: entries(m, drawn.bins), order: entries(m, drawn.order), lower, upper, sampler: drawn.stale.then_some(past) };
+    let (bins, order, store) = (entries(m, drawn.bins), entries(m, drawn.order), entries(store as usize, drawn.store));
+    let search = Search { stretch: None, k, bins, order, store, sampler: drawn.stale.then_some(past) };
     let stretch = Some((drawn.stretch.start, drawn.stretch.end));
     let whole = drawn.stretch == (0..drawn.blocks());
     let searches = if whole { vec![search] } else { vec![search.clone(), Search { stretch, ..search }] };
@@ -288,6 +290,7 @@ fn write_case(sheet: &mut Sheet, case: &Case, low_first: bool) {
     };
     sheet.case([case.searches.len()]);
     for search in &case.searches {
+        assert!(search.store <= STORE);
         let sampler = search.sampler.unwrap_or(returned);
         let (first, end) = search.stretch.unwrap_or((0, sampler.blocks()));
         // What the sampler says was taken; words that were not fed are zero.
@@ -296,10 +299,9 @@ fn write_case(sheet: &mut Sheet, case: &Case, low_first: bool) {
         seen.resize(taken, 0);
         let direct = refusal(case, search, sampler, false);
         let layered = refusal(case, search, sampler, true);
-        let free = if layered == 0 { store_entries(sampler.block_size, search.k) } else { 0 };
         let order = (low_first != sampler.turned) as usize;
         let given = [sampler.block_size, sampler.words, sampler.taken, order];
-        let lengths = [first, end, search.k, search.bins, search.order, search.lower, search.upper, free as usize];
+        let lengths = [first, end, search.k, search.bins, search.order, search.store];
         sheet.case(lengths.into_iter().chain(match search.sampler {
             None => vec![0],
             Some(_) => [vec![1], given.to_vec()].concat(),
@@ -327,7 +329,7 @@ fn refusal(case: &Case, search: &Search, sampler: Sampler, layered: bool) -> usi
         return 3;
     }
     let store = store_entries(block_size, k);
-    if layered && (store > 1 << 32 || (search.lower as u128) < store || (search.upper as u128) < store) {
+    if layered && (store > 1 << 32 || (search.store as u128) < store) {
         return 6;
     }
     if search.bins < 1 << k || search.order < 1 << k {
@@ -338,13 +340,17 @@ fn refusal(case: &Case, search: &Search, sampler: Sampler, layered: bool) -> usi
 
 /// What a search answers, given B and the sampler's bit order.
 fn answer(sheet: &mut Sheet, search: &Search, [block_size, order]: [usize; 2], blocks: &[u8], refusal: usize, threads: usize) {
-    let unchanged = if threads == 0 { vec![0; 4] } else { vec![0; 2] };
+    let mut after = vec![0, 0];
+    if threads == 0 {
+        let sum = if refusal == 0 { checksum(&transform_data(blocks, block_size), block_size, search.k) } else { 0 };
+        after.extend([0, sum]);
+    }
     if refusal != 0 {
         // Every field 0, no counts, no order, and all entries as lent.
         sheet.answer([refusal].into_iter().chain([0; 25]));
         sheet.answer(Vec::<usize>::new());
         sheet.answer(Vec::<usize>::new());
-        sheet.answer(unchanged);
+        sheet.answer(after);
         return;
     }
     let finding = bottomup(blocks, block_size, search.k, threads).unwrap();
@@ -355,5 +361,5 @@ fn answer(sheet: &mut Sheet, search: &Search, [block_size, order]: [usize; 2], b
     sheet.answer(line);
     sheet.answer(evaluate_histogram(&finding, blocks).bins);
     sheet.answer(finding.order);
-    sheet.answer(unchanged);
+    sheet.answer(after);
 }

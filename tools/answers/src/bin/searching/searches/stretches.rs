@@ -53,7 +53,7 @@ fn refused(draws: &mut Draws) -> Case {
     for (first, end) in [(2, 1), (0, 30)] {
         // Before 2, 3, 6 and 7.
         for (k, bins, store) in [(0, 5, 16), (21, 5, 16), (9, 600, 5000), (3, 8, 1), (3, 7, 1000), (3, 7, 1), (0, 0, 0)] {
-            searches.push(in_stretch(first, end, Search { k, bins, order: bins, lower: store, upper: store, ..good.clone() }));
+            searches.push(in_stretch(first, end, Search { k, bins, order: bins, store, ..good.clone() }));
         }
         // After 4.
         for (block_size, words, taken) in [(12, 17, 29), (8, 16, 29), (8, 17, 129), (0, 17, 29)] {
@@ -63,7 +63,7 @@ fn refused(draws: &mut Draws) -> Case {
     }
     // Within it, where the later refusals come as they did.
     for (k, bins, store) in [(0, 5, 16), (9, 600, 5000), (3, 8, 1), (3, 7, 1000), (3, 8, 1000)] {
-        searches.push(in_stretch(3, 29, Search { k, bins, order: bins, lower: store, upper: store, ..good.clone() }));
+        searches.push(in_stretch(3, 29, Search { k, bins, order: bins, store, ..good.clone() }));
     }
     Case { block_size: 8, words: 17, pieces: vec![draws.bytes(21), draws.bytes(8)], searches }
 }
