@@ -1,5 +1,5 @@
 //! Our calls against the reference's, on drawn cases: `differential [SEED [CASES]]`. Or on recordings that take too long to be drawn: `differential widths`,
-//! `differential capacity`, `differential wide WIDTH [reference]`. Or recordings searched in many stretches: `differential stretches [SEED [CASES]]`. Or
+//! `differential capacity`, `differential wide WIDTH [reference|layered]`. Or recordings searched in many stretches: `differential stretches [SEED [CASES]]`. Or
 //! findings as text: `differential exchange [SEED [CASES]]`. Or ranks of all subsets in turn: `differential ranks`. Or what is known to differ:
 //! `differential differences`. Or their times: `differential bench`. Or beside those of an earlier commit: `differential before`. Or the stack that our calls
 //! take: `differential stack`.

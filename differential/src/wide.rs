@@ -1,9 +1,9 @@
-//! Direct searches of widths 17 to 20, which take too long to be drawn: one recording at B 24, one width a run. Its bytes have three values, so that most
+//! Searches of widths 17 to 20, which take too long to be drawn: one recording at B 24, one width a run. Its bytes have three values, so that most
 //! bins are empty and many sets of bits tie. The reference's answer is kept below `target`, so that its hours are spent once.
 
 use crate::case::{same, Checked};
 use crate::ours;
-use crate::recordings::{numbers, LENT};
+use crate::recordings::{numbers, store_size, LENT};
 use answers::{bottomup, choose, evaluate_histogram, recording, Draws};
 use std::{fs, path::PathBuf, process::exit, time::Instant};
 
@@ -31,14 +31,23 @@ pub fn run(width: &str, side: Option<&str>) {
         reference(k);
         return;
     }
-    let ours = ours(k);
-    if let Err(what) = compare(&ours, &reference(k)) {
+    let layered = ours(k, true);
+    if side == Some("layered") {
+        tell(k, &layered);
+        return;
+    }
+    let direct = ours(k, false);
+    if let Err(what) = compare(&layered, &direct).and_then(|()| compare(&direct, &reference(k))) {
         println!("wide: width {k} differs: {what}");
         exit(1);
     }
-    let bits = &ours.finding[4..4 + k];
-    println!("wide: width {k}: bits {bits:?}, division {}, z {}", ours.finding[2], f64::from_bits(ours.finding[3]));
+    tell(k, &direct);
     println!("wide: width {k}: 1 compared, 0 different");
+}
+
+fn tell(k: usize, answer: &Answer) {
+    let bits = &answer.finding[4..4 + k];
+    println!("wide: width {k}: bits {bits:?}, division {}, z {}", answer.finding[2], f64::from_bits(answer.finding[3]));
 }
 
 fn compare(ours: &Answer, reference: &Answer) -> Checked {
@@ -47,8 +56,8 @@ fn compare(ours: &Answer, reference: &Answer) -> Checked {
     same("order", ours.order == reference.order, true)
 }
 
-/// Fed in three pieces with an empty and a refused one between.
-fn ours(k: usize) -> Answer {
+/// By layers or directly; fed in three pieces with an empty and a refused one between.
+fn ours(k: usize, by_layers: bool) -> Answer {
     let held = held();
     let mut words = vec![u64::MAX; BLOCK_SIZE];
     let mut sampler = [5; 4];
@@ -59,9 +68,14 @@ fn ours(k: usize) -> Answer {
     }
     let m = 1 << k;
     let (mut counts, mut order) = (vec![LENT; m + 1], vec![LENT; m + 1]);
+    let mut store = vec![LENT; store_size(BLOCK_SIZE, k).unwrap()];
     let start = Instant::now();
-    let searched = ours::direct(&sampler, &words, 0..BLOCKS, k, &mut counts, &mut order);
-    println!("wide: width {k}: ours took {:.0} s", start.elapsed().as_secs_f64());
+    let (way, searched) = if by_layers {
+        ("layered", ours::layered(&sampler, &words, 0..BLOCKS, k, &mut store, &mut counts, &mut order))
+    } else {
+        ("direct", ours::direct(&sampler, &words, 0..BLOCKS, k, &mut counts, &mut order))
+    };
+    println!("wide: width {k}: ours, {way}, took {:.0} s", start.elapsed().as_secs_f64());
     assert_eq!((searched.refusal, searched.finding[24], counts.pop(), order.pop()), (0, 0, Some(LENT), Some(LENT)));
     Answer { finding: searched.finding[..24].to_vec(), counts, order }
 }

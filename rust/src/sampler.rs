@@ -55,7 +55,7 @@ impl Sampler {
         self.search_direct_in(0..self.blocks(), k)
     }
 
-    /// The same by subtraction from layer to layer: faster, with a store that is allocated for it.
+    /// The same from the counts of smaller sets, in a store that is allocated for it: faster.
     pub fn search_layered(&self, k: usize) -> Result<Finding, Refusal> {
         self.search_layered_in(0..self.blocks(), k)
     }
