@@ -122,7 +122,7 @@ uint32_t jimrawel_brute_force_threads(
     const uint64_t *sampler, size_t sampler_len, const uint64_t *words, size_t words_len, size_t first, size_t end, size_t k,
     uint32_t *bins, size_t bins_len, uint32_t *order, size_t order_len, uint64_t *finding, size_t finding_len);
 
-/* The layered search: the same answer with one count for each set of up to k bits, the bins of a set by subtraction from those of its subsets.
+/* The layered search: the same answer with one count for each set of up to k bits, the bins of a set worked out from the counts of its subsets.
      store  at least as many entries as the sum of C(B, d) for d from 1 to max(1, k - 1): 349,632 at B 128, k 4. Afterwards so many hold, for
             each set of 1 to max(1, k - 1) bits, how many blocks of the stretch have all its bits set: first the sets of one bit, then those of
             two and so on, and of as many bits in lexicographic order (jimrawel_compute_index).
