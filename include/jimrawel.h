@@ -9,11 +9,12 @@
      type, and all entries have to be readable, and writable where the address is not const. Two slices of one call may overlap
      only where both are const. An empty slice may have any aligned address that is not null. Nothing is kept after a call
      returns, nothing is allocated, nothing is shared between calls: calls may run at the same time where no slice that one of
-     them writes overlaps a slice of the other. A thread with 128 KB of stack can make every call: this is measured, not proved
-     (differential/README.md, "The stack"). The direct search takes the most, 89 KB at width 20; no other call takes 40 KB.
+     them writes overlaps a slice of the other. A thread with 160 KB of stack can make every call: this is measured, not proved
+     (differential/README.md, "The stack"). A search with no store takes the most, 110 KB at width 20; with a store that
+     suffices it takes 43 KB, and no other call takes 9 KB.
    - Each call takes any numbers at all. What it cannot take it refuses: the result is the number of the first refusal that
-     applies, in the order given at the call, and 0 where there is none (enum jimrawel_refusal). jimrawel_blocks and
-     jimrawel_longest_text alone refuse nothing and return a number of blocks, and of bytes.
+     applies, in the order given at the call, and 0 where there is none (enum jimrawel_refusal). jimrawel_blocks,
+     jimrawel_store_needed and jimrawel_longest_text alone refuse nothing and return a number of blocks, of entries and of bytes.
    - Where a call is refused, every lent entry is as it was lent, but for three things: a record that the call writes (a sampler by
      jimrawel_start, a finding, a rank, an evaluation, two lengths, a plan, a text's length; not a ranking) then has every number 0;
      after 13 and 14, and after 17 of jimrawel_write_finding, the first 2^width entries of the scratch are 0; and where
@@ -72,7 +73,6 @@ enum jimrawel_refusal {
     JIMRAWEL_WIDTH_ABOVE_BLOCK = 3,  /* k is above B */
     JIMRAWEL_BAD_SAMPLER = 4,        /* its B is invalid, its number of words is not the lent one, or T is above capacity */
     JIMRAWEL_FULL = 5,               /* the piece would go past capacity */
-    JIMRAWEL_SHORT_STORE = 6,        /* the sum of the layered search is above 2^32, or its store shorter */
     JIMRAWEL_SHORT_BUFFER = 7,       /* bins, order or scratch have fewer than 2^k entries */
     JIMRAWEL_FEW_BLOCKS = 8,         /* fewer than two blocks */
     JIMRAWEL_BITS_NOT_RISING = 9,    /* the bits do not strictly increase */
@@ -110,28 +110,28 @@ uint32_t jimrawel_feed(uint64_t *sampler, size_t sampler_len, uint64_t *words, s
      sampler  as start or the last feed left it; it is read. */
 size_t jimrawel_blocks(const uint64_t *sampler, size_t sampler_len);
 
-/* The direct search: counts every bin of every set of k bits over a stretch of the whole blocks taken, and finds the best.
+/* The search: finds the best set of k bits over a stretch of the whole blocks taken. With a store that is long enough it goes by layers: it counts each set of
+   up to k bits once and works out the bins of a set from the counts of its subsets. Else it counts every bin of every set. The finding, the counts and the
+   order are the same with any store: search with a long one, then with none, to see that they are.
      sampler, words  as the last feed left them; they are read.
      first, end  the stretch: blocks first to end - 1, numbered from 0; the others enter neither counts nor z. From 0 to what jimrawel_blocks
               returns it is all of them. Where first is end there is no block, and the answer is bits 0 to k - 1, division 1, z 0.
+     store    any number of entries, also 0, the address then as of every empty slice. Long enough are jimrawel_store_needed(B, k), where that is not 0:
+              so many afterwards hold, for each set of 1 to max(1, k - 1) bits, how many blocks of the stretch have all its bits set: first the
+              sets of one bit, then those of two and so on, and of as many bits in lexicographic order (jimrawel_compute_index). A store
+              that is shorter is as lent.
      bins     at least 2^k entries; the winner's counts are written to the first 2^k.
      order    at least 2^k entries; the winner's bin order is written to the first 2^k.
      finding  at least 25 numbers; the winner, with the sampler's bit order.
    Refusals: 25, 27, 4, 18, 2, 3, 7. */
-uint32_t jimrawel_brute_force_threads(
-    const uint64_t *sampler, size_t sampler_len, const uint64_t *words, size_t words_len, size_t first, size_t end, size_t k,
-    uint32_t *bins, size_t bins_len, uint32_t *order, size_t order_len, uint64_t *finding, size_t finding_len);
-
-/* The layered search: the same answer with one count for each set of up to k bits, the bins of a set worked out from the counts of its subsets.
-     store  at least as many entries as the sum of C(B, d) for d from 1 to max(1, k - 1): 349,632 at B 128, k 4. Afterwards so many hold, for
-            each set of 1 to max(1, k - 1) bits, how many blocks of the stretch have all its bits set: first the sets of one bit, then those of
-            two and so on, and of as many bits in lexicographic order (jimrawel_compute_index).
-     The rest as for the direct search.
-   Refusals: 25, 27, 4, 18, 2, 3, 6, 7. */
-uint32_t jimrawel_brute_force(
+uint32_t jimrawel_bottomup(
     const uint64_t *sampler, size_t sampler_len, const uint64_t *words, size_t words_len, size_t first, size_t end, size_t k,
     uint32_t *store, size_t store_len, uint32_t *bins, size_t bins_len, uint32_t *order, size_t order_len,
     uint64_t *finding, size_t finding_len);
+
+/* How many entries a store must have for a search of width k to go by layers: the sum of C(B, d) for d from 1 to max(1, k - 1), 349,632 at B 128, k 4. 0 where
+   no store makes it so: B is no multiple of 8 from 8 to 4,096, k is 0, above 20 or above B, or the sum is above 2^32. */
+size_t jimrawel_store_needed(size_t block_size, size_t k);
 
 /* The rank of a set of bits: how many sets of as many bits come before it in lexicographic order.
      bits  the bits, all of them; their number is the width.

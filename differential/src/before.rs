@@ -7,7 +7,7 @@ use crate::ours;
 use crate::recordings::{numbers, numbers_in, store_size};
 use answers::run::sound;
 use answers::{
-    brute_force, brute_force_threads, choose, compute_index, evaluate_histogram, to_json, transform_data, with_low_first, Draws, Finding, Histogram,
+    brute_force, brute_force_threads, compute_index, evaluate_histogram, to_json, transform_data, with_low_first, Draws, Finding, Histogram,
 };
 use earlier::calls;
 use std::hint::black_box;
@@ -21,11 +21,6 @@ mod earlier {
     pub mod calls {
         include!(concat!(env!("JIMRAWEL_BEFORE"), "/calls.rs"));
     }
-}
-
-/// The entries of each of that commit's two stores: the largest C(B, d) x 2^d for d from 1 to max(1, k - 1).
-fn earlier_store_size(block_size: usize, k: usize) -> usize {
-    (1..=(k - 1).max(1)).map(|d| choose(block_size, d) << d).max().unwrap()
 }
 
 /// Block size and width of the ranks.
@@ -106,31 +101,31 @@ fn searches(block_size: usize, k: usize, bytes: usize, searches: usize) {
     assert_eq!(ours::start(block_size, false, &mut words, &mut sampler), 0);
     assert_eq!(ours::feed(&mut sampler, &mut words, &data), 0);
     let rows = transform_data(&data, block_size);
-    let (size, earlier_size, m) = (store_size(block_size, k).unwrap(), earlier_store_size(block_size, k), 1 << k);
+    let (size, m) = (store_size(block_size, k).unwrap(), 1 << k);
     let (mut store, mut bins, mut order) = (vec![0_u32; size], vec![0_u32; m], vec![0_u32; m]);
-    let (mut earlier_lower, mut earlier_upper) = (vec![0_u32; earlier_size], vec![0_u32; earlier_size]);
-    let (mut earlier_bins, mut earlier_order) = (bins.clone(), order.clone());
+    let (mut earlier_store, mut earlier_bins, mut earlier_order) = (store.clone(), bins.clone(), order.clone());
     let (mut earlier, mut found, mut expected) = ([0; 25], None, None);
     let name = format!("B {block_size}, k {k}, {bytes} bytes");
 
     compare(
         &format!("{name}, layered"),
         searches,
+        // Two calls there, of which this one takes a store.
         &mut || {
-            // Two stores there.
-            let stores: [&mut [u32]; 2] = [&mut earlier_lower, &mut earlier_upper];
-            assert_eq!(calls::brute_force(&sampler, &words, 0..blocks, k, stores, &mut earlier_bins, &mut earlier_order, &mut earlier), 0);
+            let (store, bins, order) = (&mut earlier_store, &mut earlier_bins, &mut earlier_order);
+            assert_eq!(calls::brute_force(&sampler, &words, 0..blocks, k, store, bins, order, &mut earlier), 0);
         },
-        &mut || found = Some(ours::layered(&sampler, &words, 0..blocks, k, &mut store, &mut bins, &mut order)),
+        &mut || found = Some(ours::bottomup(&sampler, &words, 0..blocks, k, &mut store, &mut bins, &mut order)),
         &mut || expected = brute_force(&rows, block_size, k),
     );
     assert_eq!(found.take().unwrap().finding, earlier);
+    assert!(store == earlier_store);
     assert_eq!(expected.take().unwrap().z.to_bits(), earlier[3]);
     compare(
         &format!("{name}, direct"),
         searches,
         &mut || assert_eq!(calls::brute_force_threads(&sampler, &words, 0..blocks, k, &mut earlier_bins, &mut earlier_order, &mut earlier), 0),
-        &mut || found = Some(ours::direct(&sampler, &words, 0..blocks, k, &mut bins, &mut order)),
+        &mut || found = Some(ours::bottomup(&sampler, &words, 0..blocks, k, &mut [], &mut bins, &mut order)),
         &mut || expected = brute_force_threads(&rows, block_size, k, 1),
     );
     assert_eq!(found.unwrap().finding, earlier);

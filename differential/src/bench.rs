@@ -59,13 +59,13 @@ fn searches(block_size: usize, k: usize, bytes: usize) -> f64 {
     let (mut found, mut expected) = (None, None);
     compare(
         &format!("{name}, layered"),
-        &mut || found = Some(ours::layered(&sampler, &words, 0..blocks, k, &mut store, &mut bins, &mut order)),
+        &mut || found = Some(ours::bottomup(&sampler, &words, 0..blocks, k, &mut store, &mut bins, &mut order)),
         &mut || expected = brute_force(&rows, block_size, k),
     );
     assert_eq!(found.take().unwrap().finding[3], expected.take().unwrap().z.to_bits());
     compare(
         &format!("{name}, direct"),
-        &mut || found = Some(ours::direct(&sampler, &words, 0..blocks, k, &mut bins, &mut order)),
+        &mut || found = Some(ours::bottomup(&sampler, &words, 0..blocks, k, &mut [], &mut bins, &mut order)),
         &mut || expected = brute_force_threads(&rows, block_size, k, 1),
     );
     assert_eq!(found.unwrap().finding[3], expected.unwrap().z.to_bits());

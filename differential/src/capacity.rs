@@ -1,5 +1,5 @@
-//! Recordings at capacity, 16,777,216 blocks, fed in uneven pieces and searched both ways, whole and from the first word to the last but for some blocks of
-//! these, and as many blocks evaluated. Bytes of few values or of a short period, so that scores tie, and drawn ones.
+//! Recordings at capacity, 16,777,216 blocks, fed in uneven pieces and searched with a store and with none, whole and from the first word to the last but for
+//! some blocks of these, and as many blocks evaluated. Bytes of few values or of a short period, so that scores tie, and drawn ones.
 
 use crate::account::Run;
 use crate::case::Compared;

@@ -2,7 +2,7 @@
 //! Beside them, where there is no difference: a finding's large numbers, and bit entries past its width.
 
 use crate::case::{same, Checked};
-use crate::ours;
+use crate::ours::{self, Searched};
 use crate::recordings::{numbers, numbers_in};
 use answers::{
     arguments, bottomup, compute_index, configurations, evaluate_histogram, from_bins, from_json, reversed, to_json, transform_data, validate, whole_blocks,
@@ -102,7 +102,7 @@ fn check(finding: &Finding, scratch: &mut [u32]) -> u32 {
 fn pieces() -> Checked {
     let (sampler, words) = sampled(8, &[&[0, 0, 255], &[], &[255]]);
     let found = bottomup(&[0, 0, 255, 255], 8, 2, 1)?;
-    same("finding", ours::direct(&sampler, &words, 0..4, 2, &mut [0; 4], &mut [0; 4]).finding, numbers(&found))
+    same("finding", ours::bottomup(&sampler, &words, 0..4, 2, &mut [], &mut [0; 4], &mut [0; 4]).finding, numbers(&found))
 }
 
 fn row_words() -> Checked {
@@ -118,7 +118,7 @@ fn unfinished_block() -> Checked {
     is("the reference's", (rows.num_of_blocks(), rows.row(0)), (1, &[1][..]))?;
     let (sampler, words) = sampled(16, &[&bytes]);
     let mut counts = [0; 2];
-    is("refusal", ours::direct(&sampler, &words, 0..1, 1, &mut counts, &mut [0; 2]).refusal, 0)?;
+    is("refusal", ours::bottomup(&sampler, &words, 0..1, 1, &mut [], &mut counts, &mut [0; 2]).refusal, 0)?;
     is("counts", counts, [0, 1])
 }
 
@@ -169,7 +169,7 @@ fn many_blocks() -> Checked {
 
 fn widths() -> Checked {
     let (sampler, words) = sampled(8, &[&[0, 255]]);
-    let refusal = |k: usize| ours::direct(&sampler, &words, 0..2, k, &mut [0; 512], &mut [0; 512]).refusal;
+    let refusal = |k: usize| ours::bottomup(&sampler, &words, 0..2, k, &mut [], &mut [0; 512], &mut [0; 512]).refusal;
     is("widths 0, 9, 21", [0, 9, 21].map(refusal), [2, 3, 2])?;
     is("the reference's bits at width 0", bottomup(&[0, 255], 8, 0, 1)?.bits, vec![])?;
     for k in ["0", "9", "21"] {
@@ -184,25 +184,21 @@ fn widths() -> Checked {
 
 fn stores() -> Checked {
     let (sampler, words) = sampled(8, &[&[0, 255]]);
-    let search = |entries: usize| {
-        let mut store = vec![5; entries];
-        (ours::layered(&sampler, &words, 0..2, 8, &mut store, &mut [0; 256], &mut [0; 256]).refusal, store)
-    };
-    is("a store of 253", search(253), (6, vec![5; 253]))?;
+    let found = Searched { refusal: 0, finding: numbers(&bottomup(&[0, 255], 8, 8, 0)?) };
     // One block of the two has every bit.
-    is("a store of 255", search(255), (0, [vec![1; 254], vec![5]].concat()))?;
-    is("a store of 254", search(254), (0, vec![1; 254]))?;
-    is("the reference", bottomup(&[0, 255], 8, 8, 0).is_ok(), true)?;
-    // C(128, 6) is above 2^32: refused with any store. The reference would need more memory than there is.
-    let (sampler, words) = sampled(128, &[&[0; 16]]);
-    let layered = ours::layered(&sampler, &words, 0..1, 7, &mut [0; 9], &mut [0; 128], &mut [0; 128]);
-    is("a sum above 2^32", layered.refusal, 6)
+    for (entries, left) in [(253, vec![5; 253]), (254, vec![1; 254]), (255, [vec![1; 254], vec![5]].concat())] {
+        let mut store = vec![5; entries];
+        same("finding", &ours::bottomup(&sampler, &words, 0..2, 8, &mut store, &mut [0; 256], &mut [0; 256]), &found)?;
+        is("store", store, left)?;
+    }
+    // C(128, 6) is above 2^32. The reference would need more memory than there is.
+    is("the entries needed", [ours::store_needed(8, 8), ours::store_needed(128, 7)], [254, 0])
 }
 
 fn buffers() -> Checked {
     let (sampler, words) = sampled(8, &[&[0, 255]]);
     let mut bins = [5; 3];
-    is("search", ours::direct(&sampler, &words, 0..2, 2, &mut bins, &mut [0; 4]).refusal, 7)?;
+    is("search", ours::bottomup(&sampler, &words, 0..2, 2, &mut [], &mut bins, &mut [0; 4]).refusal, 7)?;
     is("bins", bins, [5; 3])?;
     is("check", check(&finding(&[0, 1, 2, 3], 1), &mut [0; 3]), 7)?;
     is("a finding of 24 numbers", ours::validate(&numbers(&finding(&[0, 1, 2, 3], 1))[..24], &[0, 1, 2, 3], &mut [0; 4]), 25)
@@ -210,14 +206,14 @@ fn buffers() -> Checked {
 
 fn samplers() -> Checked {
     let (sampler, words) = sampled(8, &[&[0, 255]]);
-    is("other words", ours::direct(&sampler, &words[1..], 0..2, 1, &mut [0; 2], &mut [0; 2]).refusal, 4)
+    is("other words", ours::bottomup(&sampler, &words[1..], 0..2, 1, &mut [], &mut [0; 2], &mut [0; 2]).refusal, 4)
 }
 
 fn stretches() -> Checked {
     let bytes = [0xAA, 0xAA, 0xAA, 0, 0, 255, 255];
     let (sampler, words) = sampled(8, &[&bytes]);
     let mut bins = [9; 4];
-    let ours = ours::direct(&sampler, &words, 3..7, 2, &mut bins, &mut [0; 4]);
+    let ours = ours::bottomup(&sampler, &words, 3..7, 2, &mut [], &mut bins, &mut [0; 4]);
     same("finding", ours.finding, numbers(&bottomup(&bytes[3..], 8, 2, 1)?))?;
     is("counts", bins, [2, 0, 0, 2])?;
     is("the chosen bits", &ours.finding[4..6], &[0, 1])?;
@@ -227,13 +223,12 @@ fn stretches() -> Checked {
 fn other_stretches() -> Checked {
     let (sampler, words) = sampled(8, &[&[0xAA, 0xAA, 0xAA, 0, 0, 255, 255]]);
     for stretch in [4..3, 0..8, 8..8] {
-        let (mut bins, mut order) = ([5; 4], [5; 4]);
-        let answer = ours::direct(&sampler, &words, stretch.clone(), 2, &mut bins, &mut order);
-        is("direct", (answer.refusal, answer.finding, bins, order), (18, [0; 25], [5; 4], [5; 4]))?;
-        let mut store = [5; 8];
-        let answer = ours::layered(&sampler, &words, stretch, 2, &mut store, &mut bins, &mut order);
-        is("layered", (answer.refusal, answer.finding, bins, order), (18, [0; 25], [5; 4], [5; 4]))?;
-        is("store", store, [5; 8])?;
+        for entries in [8, 0] {
+            let (mut bins, mut order, mut store) = ([5; 4], [5; 4], vec![5; entries]);
+            let answer = ours::bottomup(&sampler, &words, stretch.clone(), 2, &mut store, &mut bins, &mut order);
+            is("search", (answer.refusal, answer.finding, bins, order), (18, [0; 25], [5; 4], [5; 4]))?;
+            is("store", store, vec![5; entries])?;
+        }
     }
     Ok(())
 }
@@ -241,7 +236,7 @@ fn other_stretches() -> Checked {
 fn bit_orders() -> Checked {
     let bytes = [0x01, 0x01, 0x01, 0x00];
     let (sampler, words) = sampled_in(true, 8, &[&bytes]);
-    let ours = ours::direct(&sampler, &words, 0..4, 2, &mut [0; 4], &mut [0; 4]).finding;
+    let ours = ours::bottomup(&sampler, &words, 0..4, 2, &mut [], &mut [0; 4], &mut [0; 4]).finding;
     is("the chosen bits", &ours[4..6], &[1, 2])?;
     same("finding", ours, numbers_in(&bottomup(&reversed(&bytes), 8, 2, 1)?, true))?;
     is("the reversed bytes", reversed(&bytes), vec![0x80, 0x80, 0x80, 0x00])?;
@@ -255,11 +250,8 @@ fn other_bit_orders() -> Checked {
     is("feed", (ours::feed(&mut sampler, &mut words, &[255]), sampler, words == lent_words), (27, lent, true))?;
     is("blocks", ours::blocks(&sampler), 0)?;
     let (mut bins, mut order, mut store) = ([5; 4], [5; 4], [5; 8]);
-    let answers = [
-        ours::direct(&sampler, &words, 0..2, 2, &mut bins, &mut order),
-        ours::layered(&sampler, &words, 0..2, 2, &mut store, &mut bins, &mut order),
-    ];
-    for answer in answers {
+    for entries in [8, 0] {
+        let answer = ours::bottomup(&sampler, &words, 0..2, 2, &mut store[..entries], &mut bins, &mut order);
         is("search", (answer.refusal, answer.finding), (27, [ours::LENT; 25]))?;
     }
     is("buffers and store", (bins, order, store), ([5; 4], [5; 4], [5; 8]))?;
@@ -275,9 +267,11 @@ fn other_bit_orders() -> Checked {
 fn threads() -> Checked {
     let bytes: Vec<u8> = (0..999).map(|i| (i * i % 251) as u8).collect();
     let (sampler, words) = sampled(24, &[&bytes]);
-    let ours = ours::direct(&sampler, &words, 0..333, 3, &mut [0; 8], &mut [0; 8]).finding;
-    for threads in 0..4 {
-        same("finding", ours, numbers(&bottomup(&bytes, 24, 3, threads)?))?;
+    for entries in [300, 0] {
+        let ours = ours::bottomup(&sampler, &words, 0..333, 3, &mut vec![0; entries], &mut [0; 8], &mut [0; 8]).finding;
+        for threads in 0..4 {
+            same("finding", ours, numbers(&bottomup(&bytes, 24, 3, threads)?))?;
+        }
     }
     Ok(())
 }

@@ -1,7 +1,7 @@
 //! Our calls, with answers that hold something before each, so that what a call leaves unwritten is seen.
 
 use jimrawel::calls;
-pub use jimrawel::calls::{blocks, feed, from_bins, longest_text, start, validate};
+pub use jimrawel::calls::{blocks, feed, from_bins, longest_text, start, store_needed, validate};
 use std::ops::Range;
 
 /// What stands in every number of an answer before.
@@ -14,18 +14,12 @@ pub struct Searched {
     pub finding: [u64; 25],
 }
 
-pub fn direct(sampler: &[u64], words: &[u64], stretch: Range<usize>, k: usize, bins: &mut [u32], order: &mut [u32]) -> Searched {
-    let mut finding = [LENT; 25];
-    let refusal = calls::brute_force_threads(sampler, words, stretch, k, bins, order, &mut finding);
-    Searched { refusal, finding }
-}
-
-pub fn layered(
+pub fn bottomup(
     sampler: &[u64], words: &[u64], stretch: Range<usize>, k: usize,
     store: &mut [u32], bins: &mut [u32], order: &mut [u32],
 ) -> Searched {
     let mut finding = [LENT; 25];
-    let refusal = calls::brute_force(sampler, words, stretch, k, store, bins, order, &mut finding);
+    let refusal = calls::bottomup(sampler, words, stretch, k, store, bins, order, &mut finding);
     Searched { refusal, finding }
 }
 

@@ -1,8 +1,10 @@
-//! Ranks of every subset of a block, one after another, so that a rank is known by its place; the reference answers each too.
+//! Ranks of every subset of a block, one after another, so that a rank is known by its place; the reference answers each too. And how many entries a store
+//! needs, which are as many subsets, for every block size and width.
 
 use crate::account::Run;
 use crate::case::{same, Checked};
 use crate::ours;
+use crate::recordings::store_size;
 use answers::{choose, compute_index, Draws};
 
 /// Block sizes and the widths of which every subset is ranked.
@@ -22,6 +24,11 @@ pub fn run() {
     }
     for k in 1..=20 {
         at_the_limit(&mut run, k);
+    }
+    // Past the limits too.
+    for (block_size, k) in (0..=4_200).flat_map(|block_size| (0..=22).map(move |k| (block_size, k))) {
+        let entries = store_size(block_size, k).unwrap_or(0);
+        run.compare("entries that a store needs", |_| same(&format!("B {block_size}, k {k}"), ours::store_needed(block_size, k), entries));
     }
     run.close("ranks");
 }

@@ -1,4 +1,4 @@
-//! Recordings fed in pieces and searched both ways.
+//! Recordings fed in pieces and searched, with a store and with none.
 
 use crate::account::Account;
 use crate::case::{fewer, same, Checked, Compared};
@@ -11,10 +11,10 @@ use std::ops::Range;
 
 pub const LENT: u32 = 0xABCD;
 
-/// How much a layered search of a drawn recording may work, some ten seconds of the reference's; one that works more is left out.
+/// How much the reference's layered search of a drawn recording may work, some ten seconds; where it works more, our search with a store is left out.
 const WORK: usize = 2_000_000_000;
 
-/// How much a layered search works: the reference ranks a subset of the layer below for each bin of each layer.
+/// How much that search works: the reference ranks a subset of the layer below for each bin of each layer.
 fn layered_work(block_size: usize, k: usize) -> usize {
     (1..=k).map(|d| (choose(block_size, d) << d).saturating_mul(4 + block_size * (d - 1) / 4)).sum()
 }
@@ -22,8 +22,11 @@ fn layered_work(block_size: usize, k: usize) -> usize {
 /// How many words of rows may be counted for a store, a row's for each entry: where they are more, some of its counts are compared.
 const COUNTED: usize = 200_000_000;
 
-/// The entries that the store needs, where they are at most 2^32.
+/// The entries that a store needs, where the block has the width and they are at most 2^32.
 pub fn store_size(block_size: usize, k: usize) -> Option<usize> {
+    if !valid(block_size) || !(1..=20.min(block_size)).contains(&k) {
+        return None;
+    }
     let size = (1..=(k - 1).max(1)).map(|d| choose(block_size, d)).fold(0, usize::saturating_add);
     (size <= 1 << 32).then_some(size)
 }
@@ -95,8 +98,9 @@ struct Sampled {
     words: Vec<u64>,
 }
 
-/// Feeds and searches a recording on both sides; a layered search that works more than this is left out. The reference knows the high bit first alone: where
-/// the low bit comes first it is given the bytes with their bits reversed, and so are our own calls, with the high bit first, a second time.
+/// Feeds and searches a recording on both sides; where the reference's layered search works more than this, ours with a store is left out. It knows the high
+/// bit first alone: where the low bit comes first it is given the bytes with their bits reversed, and so are our own calls, with the high bit first, a second
+/// time.
 pub fn compare(case: &Recording, work: usize, searches: &mut Account) -> Checked {
     if !valid(case.block_size) {
         return refused_start(case);
@@ -190,10 +194,10 @@ struct Answer {
 }
 
 impl Answer {
-    fn by(case: &Recording, search: impl FnOnce(&mut [u32], &mut [u32]) -> Searched) -> Answer {
+    fn by(case: &Recording, fed: &Sampled, store: &mut [u32]) -> Answer {
         let m = 1_isize << case.k.min(20);
         let (mut bins, mut order) = (vec![LENT; (m + case.bins) as usize], vec![LENT; (m + case.order) as usize]);
-        let searched = search(&mut bins, &mut order);
+        let searched = ours::bottomup(&fed.sampler, &fed.words, case.stretch.clone(), case.k, store, &mut bins, &mut order);
         Answer { searched, bins, order }
     }
 
@@ -206,49 +210,45 @@ impl Answer {
     }
 }
 
-fn direct(case: &Recording, fed: &Sampled) -> Answer {
-    Answer::by(case, |bins, order| ours::direct(&fed.sampler, &fed.words, case.stretch.clone(), case.k, bins, order))
-}
-
-fn layered(case: &Recording, fed: &Sampled, store: &mut [u32]) -> Answer {
-    Answer::by(case, |bins, order| ours::layered(&fed.sampler, &fed.words, case.stretch.clone(), case.k, store, bins, order))
-}
-
-/// `other` is the same recording with the high bit first and its bytes reversed, where the low bit comes first.
-fn check_searches(case: &Recording, fed: &Sampled, other: Option<&Sampled>, blocks: &[u8], work: usize, searches: &mut Account) -> Checked {
-    let found = direct(case, fed);
-    check_search(case, "direct", 1, refusal(case, false), blocks, &found)?;
+/// What a search with this store answers. `other` is the same recording with the high bit first and its bytes reversed, where the low bit comes first: its
+/// search has to answer and to leave the same but for the mark.
+fn search(case: &Recording, fed: &Sampled, other: Option<&Sampled>, store: &mut [u32]) -> Result<Answer, String> {
+    let mut there = store.to_vec();
+    let answer = Answer::by(case, fed, store);
     if let Some(other) = other {
-        same("direct, low first, and high first of the reversed bytes", &found.clone().high_first(), &direct(case, other))?;
+        same("low first, and high first of the reversed bytes", &answer.clone().high_first(), &Answer::by(case, other, &mut there))?;
+        same("store, low first, and high first of the reversed bytes", store == there, true)?;
     }
-    searches.add(entry("direct", found.searched.refusal), true);
+    Ok(answer)
+}
 
-    let expected = refusal(case, true);
-    let size = if case.searchable() { store_size(case.block_size, case.k) } else { None };
+/// With no store, against the reference's direct search; then with one, against its layered search, whether the store suffices or is too short.
+fn check_searches(case: &Recording, fed: &Sampled, other: Option<&Sampled>, blocks: &[u8], work: usize, searches: &mut Account) -> Checked {
+    let size = store_size(case.block_size, case.k);
+    same("the entries that a store needs", ours::store_needed(case.block_size, case.k), size.unwrap_or(0))?;
+    let expected = refusal(case);
+    let direct = search(case, fed, other, &mut [])?;
+    check_answer(case, "no store", 1, expected, blocks, &direct)?;
+    searches.add(entry(None, expected), true);
+
+    let suffices = size.is_some() && case.store >= 0;
     if size.is_some() && layered_work(case.block_size, case.k) > work {
-        searches.add(entry("layered", expected), false);
+        searches.add(entry(Some(suffices), expected), false);
         return Ok(());
     }
-    // Without a size the search is refused whatever the store.
     let draws = &mut of_case(case);
     let lent = drawn_entries(draws, (size.unwrap_or(2) as isize + case.store) as usize);
     let mut store = lent.clone();
-    let by_layers = layered(case, fed, &mut store);
-    check_search(case, "layered", 0, expected, blocks, &by_layers)?;
-    let written = if expected == 0 { size.unwrap() } else { 0 };
+    let found = search(case, fed, other, &mut store)?;
+    // Without a size there is no layered search there either.
+    check_answer(case, "a store", if size.is_some() { 0 } else { 1 }, expected, blocks, &found)?;
+    same("the answers with a store and with none", &found, &direct)?;
+    let written = if suffices && expected == 0 { size.unwrap() } else { 0 };
     same("a place of the store that is not as lent", (written..lent.len()).find(|&at| store[at] != lent[at]), None)?;
-    if expected == 0 {
+    if written > 0 {
         check_counts(case, draws, blocks, &store[..written])?;
     }
-    if found.searched.refusal == 0 && by_layers.searched.refusal == 0 {
-        same("both searches' findings, counts and orders", &by_layers, &found)?;
-    }
-    if let Some(other) = other {
-        let mut there = lent;
-        same("layered, low first, and high first of the reversed bytes", &by_layers.high_first(), &layered(case, other, &mut there))?;
-        same("store, low first, and high first of the reversed bytes", store == there, true)?;
-    }
-    searches.add(entry("layered", expected), true);
+    searches.add(entry(Some(suffices), expected), true);
     Ok(())
 }
 
@@ -293,18 +293,19 @@ fn drawn_sets(draws: &mut Draws, block_size: usize, k: usize) -> Vec<Vec<usize>>
     sets
 }
 
-/// What a search is entered as.
-fn entry(name: &str, refusal: u32) -> &'static str {
-    match (name, refusal) {
-        ("direct", 0) => "searches, direct",
-        ("direct", _) => "searches, direct, refused",
-        (_, 0) => "searches, layered",
-        _ => "searches, layered, refused",
+/// What a search is entered as: with no store, or with one and whether it suffices.
+fn entry(suffices: Option<bool>, refusal: u32) -> &'static str {
+    match (suffices, refusal) {
+        (None, 0) => "searches, no store",
+        (None, _) => "searches, no store, refused",
+        (Some(true), 0) => "searches, a store",
+        (Some(false), 0) => "searches, a store too short",
+        (Some(_), _) => "searches, a store, refused",
     }
 }
 
-/// The first refusal that applies to a search.
-fn refusal(case: &Recording, layered: bool) -> u32 {
+/// The first refusal that applies to a search; the store has none.
+fn refusal(case: &Recording) -> u32 {
     if case.mark.is_some() {
         27
     } else if case.stale {
@@ -315,8 +316,6 @@ fn refusal(case: &Recording, layered: bool) -> u32 {
         2
     } else if case.k > case.block_size {
         3
-    } else if layered && (store_size(case.block_size, case.k).is_none() || case.store < 0) {
-        6
     } else if case.bins < 0 || case.order < 0 {
         7
     } else {
@@ -325,7 +324,7 @@ fn refusal(case: &Recording, layered: bool) -> u32 {
 }
 
 /// `blocks` are those of the stretch with the high bit first.
-fn check_search(case: &Recording, name: &str, threads: usize, refusal: u32, blocks: &[u8], answer: &Answer) -> Checked {
+fn check_answer(case: &Recording, name: &str, threads: usize, refusal: u32, blocks: &[u8], answer: &Answer) -> Checked {
     let Answer { searched, bins, order } = answer;
     same(&format!("{name}: refusal"), searched.refusal, refusal)?;
     if refusal != 0 {

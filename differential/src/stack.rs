@@ -1,7 +1,7 @@
 //! The stack that each of our calls takes at its widest, measured: a call runs on a thread whose stack is painted before, and what it took reaches from
 //! the thread's own frame down to the last word that is no longer paint. No reference is needed.
 
-use crate::recordings::{numbers, store_size};
+use crate::recordings::numbers;
 use answers::run::sound;
 use answers::{to_json, with_low_first, Draws};
 use jimrawel::calls;
@@ -10,7 +10,7 @@ use std::sync::atomic::{AtomicBool, AtomicUsize, Ordering};
 use std::{hint::black_box, process::exit, ptr, thread, time::Duration, time::Instant};
 
 /// What include/jimrawel.h says that a thread needs, in KB. The last quarter is kept for the thread itself and for another compiler or C library.
-const PROMISED: usize = 128;
+const PROMISED: usize = 160;
 
 /// Words of the painted stack, and the paint.
 const WORDS: usize = 1 << 17;
@@ -93,13 +93,13 @@ pub fn run() {
     ranking(&mut table);
     judging(&mut table);
     for (block_size, k, blocks) in [(8, 1, 40_000), (8, 8, 40_000), (16, 16, 40_000), (4096, 1, 65), (512, 3, 65), (4096, 2, 65)] {
-        layered(&mut table, block_size, k, blocks);
+        search(&mut table, true, block_size, k, blocks);
     }
     for (block_size, k, blocks) in [(8, 1, 40_000), (8, 8, 40_000), (16, 16, 40_000), (4096, 1, 65), (4096, 2, 65), (24, 20, 65)] {
-        direct(&mut table, block_size, k, blocks);
+        search(&mut table, false, block_size, k, blocks);
     }
     for (block_size, k, blocks) in [(24, 20, 65), (4096, 3, 65)] {
-        layered(&mut table, block_size, k, blocks);
+        search(&mut table, true, block_size, k, blocks);
     }
     println!("{} bytes at the most in {} calls, {} promised", table.most, table.calls, 1024 * PROMISED);
     exit(if table.most > 1024 * PROMISED * 3 / 4 { 1 } else { 0 });
@@ -134,20 +134,13 @@ fn feeding(table: &mut Table) {
     }
 }
 
-fn direct(table: &mut Table, block_size: usize, k: usize, blocks: usize) {
+/// With a store that suffices, or with none.
+fn search(table: &mut Table, stored: bool, block_size: usize, k: usize, blocks: usize) {
     let (sampler, words) = fed(block_size, blocks);
-    let (mut bins, mut order, mut finding) = (vec![0; 1 << k], vec![0; 1 << k], [0; 25]);
-    table.row("jimrawel_brute_force_threads", &format!("B {block_size}, k {k}, {blocks} blocks"), move || {
-        assert_eq!(calls::brute_force_threads(&sampler, &words, 0..blocks, k, &mut bins, &mut order, &mut finding), 0);
-    });
-}
-
-fn layered(table: &mut Table, block_size: usize, k: usize, blocks: usize) {
-    let (sampler, words) = fed(block_size, blocks);
-    let mut store = vec![0; store_size(block_size, k).unwrap()];
-    let (mut bins, mut order, mut finding) = (vec![0; 1 << k], vec![0; 1 << k], [0; 25]);
-    table.row("jimrawel_brute_force", &format!("B {block_size}, k {k}, {blocks} blocks"), move || {
-        assert_eq!(calls::brute_force(&sampler, &words, 0..blocks, k, &mut store, &mut bins, &mut order, &mut finding), 0);
+    let (entries, with) = if stored { (calls::store_needed(block_size, k), "a store") } else { (0, "no store") };
+    let (mut store, mut bins, mut order, mut finding) = (vec![0; entries], vec![0; 1 << k], vec![0; 1 << k], [0; 25]);
+    table.row("jimrawel_bottomup", &format!("B {block_size}, k {k}, {blocks} blocks, {with}"), move || {
+        assert_eq!(calls::bottomup(&sampler, &words, 0..blocks, k, &mut store, &mut bins, &mut order, &mut finding), 0);
     });
 }
 
@@ -156,6 +149,11 @@ fn ranking(table: &mut Table) {
         let (bits, mut rank): (Vec<u32>, _) = ((block_size as u32 - k..block_size as u32).collect(), 0);
         table.row("jimrawel_compute_index", &format!("B {block_size}, k {k}"), move || {
             assert_eq!(calls::compute_index(block_size, black_box(&bits), &mut rank), 0);
+        });
+    }
+    for (block_size, k, entries) in [(64, 5, 679_120), (24, 20, 16_764_264), (4096, 20, 0)] {
+        table.row("jimrawel_store_needed", &format!("B {block_size}, k {k}"), move || {
+            assert_eq!(calls::store_needed(black_box(block_size), black_box(k)), entries);
         });
     }
     for (k, end) in [(1, 5), (7, 5), (8, 5), (20, 5), (20, 4000)] {

@@ -31,12 +31,12 @@ pub fn run(width: &str, side: Option<&str>) {
         reference(k);
         return;
     }
-    let layered = ours(k, true);
+    let layered = ours(k, "layered", store_size(BLOCK_SIZE, k).unwrap());
     if side == Some("layered") {
         tell(k, &layered);
         return;
     }
-    let direct = ours(k, false);
+    let direct = ours(k, "direct", 0);
     if let Err(what) = compare(&layered, &direct).and_then(|()| compare(&direct, &reference(k))) {
         println!("wide: width {k} differs: {what}");
         exit(1);
@@ -56,8 +56,8 @@ fn compare(ours: &Answer, reference: &Answer) -> Checked {
     same("order", ours.order == reference.order, true)
 }
 
-/// By layers or directly; fed in three pieces with an empty and a refused one between.
-fn ours(k: usize, by_layers: bool) -> Answer {
+/// With a store of so many entries, by which it is layered or direct; fed in three pieces with an empty and a refused one between.
+fn ours(k: usize, way: &str, entries: usize) -> Answer {
     let held = held();
     let mut words = vec![u64::MAX; BLOCK_SIZE];
     let mut sampler = [5; 4];
@@ -68,13 +68,8 @@ fn ours(k: usize, by_layers: bool) -> Answer {
     }
     let m = 1 << k;
     let (mut counts, mut order) = (vec![LENT; m + 1], vec![LENT; m + 1]);
-    let mut store = vec![LENT; store_size(BLOCK_SIZE, k).unwrap()];
     let start = Instant::now();
-    let (way, searched) = if by_layers {
-        ("layered", ours::layered(&sampler, &words, 0..BLOCKS, k, &mut store, &mut counts, &mut order))
-    } else {
-        ("direct", ours::direct(&sampler, &words, 0..BLOCKS, k, &mut counts, &mut order))
-    };
+    let searched = ours::bottomup(&sampler, &words, 0..BLOCKS, k, &mut vec![LENT; entries], &mut counts, &mut order);
     println!("wide: width {k}: ours, {way}, took {:.0} s", start.elapsed().as_secs_f64());
     assert_eq!((searched.refusal, searched.finding[24], counts.pop(), order.pop()), (0, 0, Some(LENT), Some(LENT)));
     Answer { finding: searched.finding[..24].to_vec(), counts, order }

@@ -10,7 +10,7 @@ use answers::{cut, recording, Draws};
 const SIZES: [(usize, usize); 12] =
     [(8, 8), (16, 16), (24, 8), (32, 6), (40, 5), (64, 4), (128, 3), (256, 3), (512, 2), (1024, 2), (2048, 2), (4096, 2)];
 
-/// How much a layered search may work: B 4,096 at width 2 is the most.
+/// How much the reference's layered search may work: B 4,096 at width 2 is the most.
 const WORK: usize = 40_000_000_000;
 
 pub fn run() {

@@ -1,5 +1,5 @@
-/* A recording fed in two pieces, searched both ways, its later blocks alone too, the finding evaluated on other bytes and on none, written as text and read
-   again; then a recording with the low bit first. Prints what it finds, and in how many blocks each bit is set. */
+/* A recording fed in two pieces, searched with a store and with none, its later blocks alone too, the finding evaluated on other bytes and on none, written as
+   text and read again; then a recording with the low bit first. Prints what it finds, and in how many blocks each bit is set. */
 #include "../jimrawel.h"
 
 #include <inttypes.h>
@@ -10,7 +10,6 @@
 #define B 8
 #define K 2
 #define BINS (1 << K)
-#define STORE B /* the sum of C(8, d) for d from 1 to 1 */
 
 static double score(uint64_t bits) {
     double z;
@@ -38,27 +37,42 @@ static void print_finding(const uint64_t *finding, const uint32_t *order) {
     printf(", division %" PRIu64 ", z %g\n", finding[JIMRAWEL_DIVISION], score(finding[JIMRAWEL_Z]));
 }
 
-/* With K 2 the layered search leaves one count for each bit. */
-static void print_counts(const uint32_t *store) {
+/* With K 2 a store holds one count for each bit. */
+static void print_store(const uint32_t *store, size_t entries) {
     printf("blocks with each bit set");
-    for (size_t i = 0; i < STORE; i++) printf(" %" PRIu32, store[i]);
+    for (size_t i = 0; i < entries; i++) printf(" %" PRIu32, store[i]);
     printf("\n");
 }
 
-/* Both searches of the blocks from first to before end, which find the same, or are refused with the same number; printed where found. */
-static uint32_t search(const uint64_t *sampler, const uint64_t *words, size_t first, size_t end, uint32_t *order, uint64_t *finding) {
-    uint64_t layered[JIMRAWEL_FINDING];
-    uint32_t store[STORE], bins[BINS];
-    uint32_t refusal = jimrawel_brute_force(
-        sampler, JIMRAWEL_SAMPLER, words, B, first, end, K, store, STORE, bins, BINS, order, BINS, layered, JIMRAWEL_FINDING);
-    uint32_t direct = jimrawel_brute_force_threads(
-        sampler, JIMRAWEL_SAMPLER, words, B, first, end, K, bins, BINS, order, BINS, finding, JIMRAWEL_FINDING);
-    if (direct != refusal || memcmp(finding, layered, sizeof layered) != 0) exit(failed("the searches differ", direct));
-    if (direct == JIMRAWEL_OK) {
-        print_finding(finding, order);
-        print_counts(store);
+/* What a search writes beside its store. */
+struct answer {
+    uint64_t finding[JIMRAWEL_FINDING];
+    uint32_t bins[BINS], order[BINS];
+};
+
+/* The blocks from first to before end, with a store of so many entries. */
+static uint32_t search_with(
+    const uint64_t *sampler, const uint64_t *words, size_t first, size_t end, uint32_t *store, size_t entries, struct answer *answer) {
+    return jimrawel_bottomup(
+        sampler, JIMRAWEL_SAMPLER, words, B, first, end, K, store, entries, answer->bins, BINS, answer->order, BINS, answer->finding, JIMRAWEL_FINDING);
+}
+
+/* Searches with a store that is long enough, and with none: both answer the same, a refusal too. Printed where found. */
+static uint32_t search(const uint64_t *sampler, const uint64_t *words, size_t first, size_t end, struct answer *answer) {
+    struct answer again = {0};
+    size_t entries = jimrawel_store_needed(B, K);
+    uint32_t *store = calloc(entries, sizeof *store);
+    if (store == NULL) exit(1);
+    *answer = again;
+    uint32_t refusal = search_with(sampler, words, first, end, store, entries, answer);
+    uint32_t without = search_with(sampler, words, first, end, store, 0, &again);
+    if (without != refusal || memcmp(answer, &again, sizeof again) != 0) exit(failed("the searches differ", without));
+    if (refusal == JIMRAWEL_OK) {
+        print_finding(answer->finding, answer->order);
+        print_store(store, entries);
     }
-    return direct;
+    free(store);
+    return refusal;
 }
 
 /* Writes the finding to a buffer that is long enough, prints it, and reads it again: all but z is the same. */
@@ -96,17 +110,18 @@ static void record(bool low_first, const uint8_t *bytes, uint64_t *words, uint64
    never change. */
 static uint32_t low_first(void) {
     const uint8_t bytes[] = {0x01, 0x01, 0x01, 0x00};
-    uint64_t words[B], sampler[JIMRAWEL_SAMPLER], finding[JIMRAWEL_FINDING], evaluated[JIMRAWEL_EVALUATED];
-    uint32_t bins[BINS], order[BINS];
+    uint64_t words[B], sampler[JIMRAWEL_SAMPLER], evaluated[JIMRAWEL_EVALUATED];
+    uint32_t bins[BINS];
+    struct answer found;
     record(true, bytes, words, sampler);
     printf("low bit first: ");
-    uint32_t refusal = search(sampler, words, 0, jimrawel_blocks(sampler, JIMRAWEL_SAMPLER), order, finding);
+    uint32_t refusal = search(sampler, words, 0, jimrawel_blocks(sampler, JIMRAWEL_SAMPLER), &found);
     if (refusal == JIMRAWEL_OK)
         refusal = jimrawel_evaluate_histogram(
-            finding, JIMRAWEL_FINDING, order, BINS, bytes, sizeof bytes, bins, BINS, evaluated, JIMRAWEL_EVALUATED);
+            found.finding, JIMRAWEL_FINDING, found.order, BINS, bytes, sizeof bytes, bins, BINS, evaluated, JIMRAWEL_EVALUATED);
     if (refusal != JIMRAWEL_OK) return refusal;
     print_evaluated(evaluated);
-    if ((refusal = exchange(finding, order)) != JIMRAWEL_OK) return refusal;
+    if ((refusal = exchange(found.finding, found.order)) != JIMRAWEL_OK) return refusal;
     sampler[JIMRAWEL_SAMPLER_LOW_FIRST] = 2;
     printf("a bit order that is none: refusal %" PRIu32 "\n", jimrawel_feed(sampler, JIMRAWEL_SAMPLER, words, B, bytes, sizeof bytes));
     return JIMRAWEL_OK;
@@ -115,27 +130,27 @@ static uint32_t low_first(void) {
 int main(void) {
     const uint8_t training[] = {0x00, 0x00, 0xFF, 0xFF};
     const uint8_t testing[] = {0x00, 0x80, 0xFF, 0xFF};
-    uint64_t words[B], sampler[JIMRAWEL_SAMPLER], finding[JIMRAWEL_FINDING], later[JIMRAWEL_FINDING];
-    uint64_t evaluated[JIMRAWEL_EVALUATED];
-    uint32_t bins[BINS], order[BINS], later_order[BINS];
-    uint32_t refusal;
+    uint64_t words[B], sampler[JIMRAWEL_SAMPLER], evaluated[JIMRAWEL_EVALUATED];
+    uint32_t bins[BINS], refusal;
+    struct answer found, later;
 
     record(false, training, words, sampler);
     size_t n = jimrawel_blocks(sampler, JIMRAWEL_SAMPLER);
-    if ((refusal = search(sampler, words, 0, n, order, finding)) != JIMRAWEL_OK) return failed("search", refusal);
+    printf("entries of a store: %zu\n", jimrawel_store_needed(B, K));
+    if ((refusal = search(sampler, words, 0, n, &found)) != JIMRAWEL_OK) return failed("search", refusal);
     printf("from block 2 on: ");
-    if ((refusal = search(sampler, words, 2, n, later_order, later)) != JIMRAWEL_OK) return failed("search", refusal);
-    printf("past the last block: refusal %" PRIu32 "\n", search(sampler, words, 2, n + 1, later_order, later));
+    if ((refusal = search(sampler, words, 2, n, &later)) != JIMRAWEL_OK) return failed("search", refusal);
+    printf("past the last block: refusal %" PRIu32 "\n", search(sampler, words, 2, n + 1, &later));
 
     const size_t lengths[] = {sizeof testing, 0};
     for (size_t i = 0; i < 2; i++) {
         refusal = jimrawel_evaluate_histogram(
-            finding, JIMRAWEL_FINDING, order, BINS, testing, lengths[i], bins, BINS, evaluated, JIMRAWEL_EVALUATED);
+            found.finding, JIMRAWEL_FINDING, found.order, BINS, testing, lengths[i], bins, BINS, evaluated, JIMRAWEL_EVALUATED);
         if (refusal != JIMRAWEL_OK) return failed("evaluation", refusal);
         print_evaluated(evaluated);
     }
 
-    if ((refusal = exchange(finding, order)) != JIMRAWEL_OK) return failed("text", refusal);
+    if ((refusal = exchange(found.finding, found.order)) != JIMRAWEL_OK) return failed("text", refusal);
 
     static const uint8_t long_piece[61];
     refusal = jimrawel_feed(sampler, JIMRAWEL_SAMPLER, words, B, long_piece, sizeof long_piece);

@@ -29,30 +29,14 @@ pub fn blocks(sampler: &[u64]) -> usize {
     unsafe { raw::jimrawel_blocks(sampler.as_ptr(), sampler.len()) }
 }
 
-/// `stretch` is from the first block to before the end.
-pub fn brute_force_threads(
-    sampler: &[u64], words: &[u64], stretch: Range<usize>, k: usize, bins: &mut [u32], order: &mut [u32], finding: &mut [u64],
-) -> u32 {
-    unsafe {
-        raw::jimrawel_brute_force_threads(
-            sampler.as_ptr(), sampler.len(),
-            words.as_ptr(), words.len(),
-            stretch.start, stretch.end,
-            k,
-            bins.as_mut_ptr(), bins.len(),
-            order.as_mut_ptr(), order.len(),
-            finding.as_mut_ptr(), finding.len(),
-        )
-    }
-}
-
-/// `store` afterwards begins with the counts of all sets of 1 to max(1, k - 1) bits.
-pub fn brute_force(
+/// `stretch` is from the first block to before the end. A `store` of [`store_needed`] entries or more afterwards begins with the counts of all sets of 1 to
+/// max(1, k - 1) bits; a shorter one stays as it is.
+pub fn bottomup(
     sampler: &[u64], words: &[u64], stretch: Range<usize>, k: usize,
     store: &mut [u32], bins: &mut [u32], order: &mut [u32], finding: &mut [u64],
 ) -> u32 {
     unsafe {
-        raw::jimrawel_brute_force(
+        raw::jimrawel_bottomup(
             sampler.as_ptr(), sampler.len(),
             words.as_ptr(), words.len(),
             stretch.start, stretch.end,
@@ -63,6 +47,12 @@ pub fn brute_force(
             finding.as_mut_ptr(), finding.len(),
         )
     }
+}
+
+/// How many entries a store must have for a search by layers: the sum of C(B, d) for d from 1 to max(1, k - 1). 0 where no store makes it one: the block size
+/// or the width is refused, or the sum is above 2^32.
+pub fn store_needed(block_size: usize, k: usize) -> usize {
+    unsafe { raw::jimrawel_store_needed(block_size, k) }
 }
 
 pub fn compute_index(block_size: usize, bits: &[u32], rank: &mut usize) -> u32 {

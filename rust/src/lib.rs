@@ -8,19 +8,20 @@
 //! let mut sampler = Sampler::start(8, BitOrder::HighFirst, 64)?;
 //! sampler.feed(&[0x00, 0x00, 0xFF])?;
 //! sampler.feed(&[0xFF])?;
-//! let finding = sampler.search_layered(2)?;
-//! assert_eq!(finding, sampler.search_direct(2)?);
+//! let finding = sampler.search(2)?;
+//! // With no store every bin is counted anew: the same finding.
+//! assert_eq!(finding, sampler.search_with(0..sampler.blocks(), 2, &mut [])?);
 //! assert_eq!((finding.bits(), finding.order(), finding.division(), finding.z()), (&[0, 1][..], &[0, 3, 1, 2][..], 2, 2.0));
 //! let evaluation = finding.evaluate(&[0x00, 0x80, 0xFF, 0xFF])?;
 //! assert_eq!((evaluation.positive, evaluation.z), (3, Some(1.0)));
-//! let later = sampler.search_layered_in(2..sampler.blocks(), 2)?;
+//! let later = sampler.search_in(2..sampler.blocks(), 2)?;
 //! assert_eq!((later.bits(), later.counts(), later.division()), (&[0, 1][..], &[0, 0, 0, 2][..], 1));
 //! assert_eq!(Sampler::start(12, BitOrder::HighFirst, 64).unwrap_err(), Refusal::BlockSize);
 //!
 //! // A recorder that packs the first bit at the low end of a byte: it is bit 0, and what never changes begins with bit 1.
 //! let mut low = Sampler::start(8, BitOrder::LowFirst, 64)?;
 //! low.feed(&[0x01, 0x01, 0x01, 0x00])?;
-//! let finding = low.search_layered(2)?;
+//! let finding = low.search(2)?;
 //! assert_eq!((finding.bit_order(), finding.bits()), (BitOrder::LowFirst, &[1, 2][..]));
 //! assert_eq!(finding.evaluate(&[0x01, 0x04])?.counts, [1, 0, 1, 0]);
 //! # Ok::<(), Refusal>(())
@@ -34,6 +35,7 @@ mod refusal;
 mod sampler;
 
 pub use bit_order::BitOrder;
+pub use calls::store_needed;
 pub use finding::{Evaluation, Finding};
 pub use refusal::Refusal;
 pub use sampler::Sampler;

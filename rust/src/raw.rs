@@ -18,17 +18,7 @@ extern "C" {
 
     pub fn jimrawel_blocks(sampler: *const u64, sampler_len: usize) -> usize;
 
-    pub fn jimrawel_brute_force_threads(
-        sampler: *const u64, sampler_len: usize,
-        words: *const u64, words_len: usize,
-        first: usize, end: usize,
-        k: usize,
-        bins: *mut u32, bins_len: usize,
-        order: *mut u32, order_len: usize,
-        finding: *mut u64, finding_len: usize,
-    ) -> u32;
-
-    pub fn jimrawel_brute_force(
+    pub fn jimrawel_bottomup(
         sampler: *const u64, sampler_len: usize,
         words: *const u64, words_len: usize,
         first: usize, end: usize,
@@ -38,6 +28,8 @@ extern "C" {
         order: *mut u32, order_len: usize,
         finding: *mut u64, finding_len: usize,
     ) -> u32;
+
+    pub fn jimrawel_store_needed(block_size: usize, k: usize) -> usize;
 
     pub fn jimrawel_compute_index(
         block_size: usize,

@@ -12,8 +12,6 @@ pub enum Refusal {
     Sampler = 4,
     /// The piece would go past capacity.
     Full = 5,
-    /// The layered search's store would need more than 2^32 entries, or is too short.
-    Store = 6,
     /// A buffer is too short.
     Buffer = 7,
     /// There are fewer than two blocks.
@@ -44,13 +42,12 @@ pub enum Refusal {
     BitOrder = 27,
 }
 
-const ALL: [Refusal; 20] = [
+const ALL: [Refusal; 19] = [
     Refusal::BlockSize,
     Refusal::Width,
     Refusal::WidthAboveBlock,
     Refusal::Sampler,
     Refusal::Full,
-    Refusal::Store,
     Refusal::Buffer,
     Refusal::FewBlocks,
     Refusal::BitsNotRising,

@@ -50,72 +50,50 @@ impl Sampler {
         accepted(calls::feed(numbers, words, piece))
     }
 
-    /// The best set of `k` bits in all whole blocks, every bin counted.
-    pub fn search_direct(&self, k: usize) -> Result<Finding, Refusal> {
-        self.search_direct_in(0..self.blocks(), k)
+    /// The best set of `k` bits in all whole blocks.
+    pub fn search(&self, k: usize) -> Result<Finding, Refusal> {
+        self.search_in(0..self.blocks(), k)
     }
 
-    /// The same from the counts of smaller sets, in a store that is allocated for it: faster.
-    pub fn search_layered(&self, k: usize) -> Result<Finding, Refusal> {
-        self.search_layered_in(0..self.blocks(), k)
+    /// The best set of `k` bits in a stretch of the whole blocks, as if these alone had been recorded. The store of a search by layers, which with many sets is
+    /// the faster way, is allocated for it where 64 Mi entries, 256 MB, are enough; else it has none.
+    pub fn search_in(&self, stretch: Range<usize>, k: usize) -> Result<Finding, Refusal> {
+        self.search_with(stretch, k, &mut vec![0; own_store(self.block_size(), k)])
     }
 
-    /// The best set of `k` bits in a stretch of the whole blocks, as if these alone had been recorded; every bin counted.
-    pub fn search_direct_in(&self, stretch: Range<usize>, k: usize) -> Result<Finding, Refusal> {
+    /// The same with the caller's store, and by it the way: with [`store_needed`](crate::store_needed) entries or more the search goes by layers and leaves in
+    /// them the counts of the smaller sets; with fewer, or none, every bin is counted and the store stays as it is. The finding is the same.
+    pub fn search_with(&self, stretch: Range<usize>, k: usize, store: &mut [u32]) -> Result<Finding, Refusal> {
         let Sampler { numbers, words } = self;
-        let (mut bins, mut order, mut finding) = buffers(k);
-        accepted(calls::brute_force_threads(numbers, words, stretch, k, &mut bins, &mut order, &mut finding))?;
-        Ok(Finding::found(finding, order, bins))
-    }
-
-    /// The same by subtraction from layer to layer.
-    pub fn search_layered_in(&self, stretch: Range<usize>, k: usize) -> Result<Finding, Refusal> {
-        let Sampler { numbers, words } = self;
-        let (mut bins, mut order, mut finding) = buffers(k);
-        let mut store = vec![0; store_size(self.block_size(), k)];
-        accepted(calls::brute_force(numbers, words, stretch, k, &mut store, &mut bins, &mut order, &mut finding))?;
+        // A width above 20 is refused before the buffers are looked at.
+        let entries = if k <= 20 { 1 << k } else { 0 };
+        let (mut bins, mut order, mut finding) = (vec![0; entries], vec![0; entries], [0; 25]);
+        accepted(calls::bottomup(numbers, words, stretch, k, store, &mut bins, &mut order, &mut finding))?;
         Ok(Finding::found(finding, order, bins))
     }
 }
 
-/// Bins, order and finding for a width, empty for one that is refused.
-fn buffers(k: usize) -> (Vec<u32>, Vec<u32>, [u64; 25]) {
-    let bins = if k <= 20 { 1 << k } else { 0 };
-    (vec![0; bins], vec![0; bins], [0; 25])
-}
+/// The most entries of a store that a search allocates: 256 MB.
+const MOST_STORED: usize = 64 << 20;
 
-/// The entries of the store, the sum of C(B, d) for d from 1 to max(1, k - 1); 0 where the search is refused anyway.
-fn store_size(block_size: usize, k: usize) -> usize {
-    if !(1..=20.min(block_size)).contains(&k) {
-        return 0;
-    }
-    let (mut sum, mut choose) = (0, 1_u64);
-    for d in 1..=(k - 1).max(1) {
-        // No product is above 2^32 x 4,096, since a sum above 2^32 ends it.
-        choose = choose * (block_size - d + 1) as u64 / d as u64;
-        sum += choose;
-        if sum > 1 << 32 {
-            return 0;
-        }
-    }
-    sum as usize
+/// The entries of the store that a search allocates: none where they would be more than the most.
+fn own_store(block_size: usize, k: usize) -> usize {
+    let needed = calls::store_needed(block_size, k);
+    if needed > MOST_STORED { 0 } else { needed }
 }
 
 #[cfg(test)]
 mod tests {
-    use super::store_size;
+    use super::own_store;
 
     #[test]
-    fn store_sizes() {
-        for (block_size, k, size) in [
-            (8, 1, 8), (8, 2, 8), (8, 3, 36), (8, 7, 246), (8, 8, 254), (16, 16, 65_534), (24, 20, 16_764_264), (128, 4, 349_632), (128, 6, 275_584_032),
-            (4096, 2, 4_096), (4096, 3, 8_390_656),
-        ] {
-            assert_eq!(store_size(block_size, k), size, "B {block_size}, k {k}");
+    fn own_stores() {
+        for (block_size, k, entries) in [(8, 8, 254), (24, 20, 16_764_264), (128, 4, 349_632), (4096, 3, 8_390_656)] {
+            assert_eq!(own_store(block_size, k), entries, "B {block_size}, k {k}");
         }
-        // Above 2^32, by a little and past any word; no width.
-        for (block_size, k) in [(128, 7), (4096, 4), (4096, 20), (8, 0), (8, 9), (4096, 21), (8, usize::MAX)] {
-            assert_eq!(store_size(block_size, k), 0, "B {block_size}, k {k}");
+        // 275,584,032 are needed, more than 2^32 would be, and none are.
+        for (block_size, k) in [(128, 6), (128, 7), (8, 0)] {
+            assert_eq!(own_store(block_size, k), 0, "B {block_size}, k {k}");
         }
     }
 }

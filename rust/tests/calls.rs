@@ -1,4 +1,4 @@
-use jimrawel::{calls, plan, rank, split, BitOrder::*, Finding, Refusal, Sampler};
+use jimrawel::{calls, plan, rank, split, store_needed, BitOrder::*, Finding, Refusal, Sampler};
 
 #[test]
 fn pieces_are_one_recording() {
@@ -12,8 +12,8 @@ fn pieces_are_one_recording() {
         assert_eq!(pieces.feed(&[0; 257]), Err(Refusal::Full));
     }
     assert_eq!((whole.taken(), whole.blocks()), (200, 100));
-    let found = whole.search_direct(3).unwrap();
-    assert_eq!(found, pieces.search_layered(3).unwrap());
+    let found = whole.search_with(0..100, 3, &mut []).unwrap();
+    assert_eq!(found, pieces.search(3).unwrap());
     assert_eq!(found.counts(), &found.evaluate(&bytes).unwrap().counts[..]);
 }
 
@@ -26,13 +26,13 @@ fn a_stretch_is_a_recording_of_its_blocks() {
         let mut alone = Sampler::start(16, HighFirst, stretch.len()).unwrap();
         alone.feed(&bytes[2 * stretch.start..2 * stretch.end]).unwrap();
         for k in 1..4 {
-            let found = alone.search_direct(k).unwrap();
-            assert_eq!(whole.search_direct_in(stretch.clone(), k).as_ref(), Ok(&found), "{stretch:?}, k {k}");
-            assert_eq!(whole.search_layered_in(stretch.clone(), k).as_ref(), Ok(&found), "{stretch:?}, k {k}");
+            let found = alone.search(k).unwrap();
+            assert_eq!(whole.search_in(stretch.clone(), k).as_ref(), Ok(&found), "{stretch:?}, k {k}");
+            assert_eq!(whole.search_with(stretch.clone(), k, &mut []).as_ref(), Ok(&found), "{stretch:?}, k {k}");
             assert_eq!(found.counts().iter().sum::<u32>() as usize, stretch.len());
         }
     }
-    let empty = whole.search_layered_in(64..64, 3).unwrap();
+    let empty = whole.search_in(64..64, 3).unwrap();
     assert_eq!((empty.bits(), empty.division(), empty.z(), empty.counts()), (&[0, 1, 2][..], 1, 0.0, &[0; 8][..]));
 }
 
@@ -44,14 +44,18 @@ fn other_stretches() {
     for (first, end) in [(1, 0), (10, 9), (0, 11), (11, 11), (0, usize::MAX), (usize::MAX, 10), (1 << 32, (1 << 32) + 1)] {
         // Before the width's refusals.
         for k in [2, 0, 17] {
-            assert_eq!(sampler.search_direct_in(first..end, k), Err(Refusal::Stretch), "{first}..{end}");
-            assert_eq!(sampler.search_layered_in(first..end, k), Err(Refusal::Stretch), "{first}..{end}");
+            assert_eq!(sampler.search_in(first..end, k), Err(Refusal::Stretch), "{first}..{end}");
+            assert_eq!(sampler.search_with(first..end, k, &mut []), Err(Refusal::Stretch), "{first}..{end}");
         }
     }
     let (words, mut bins, mut order, mut store, mut finding) = ([0; 16], [9; 4], [9; 4], [9; 16], [9; 25]);
-    assert_eq!(calls::brute_force(&[16, 16, 21, 0], &words, 0..11, 2, &mut store, &mut bins, &mut order, &mut finding), Refusal::Stretch.number());
-    assert_eq!((bins, order, store, finding), ([9; 4], [9; 4], [9; 16], [0; 25]));
-    assert_eq!(calls::brute_force_threads(&[16, 15, 21, 0], &words, 0..11, 2, &mut bins, &mut order, &mut finding), Refusal::Sampler.number());
+    for (words_said, refusal) in [(16, Refusal::Stretch), (15, Refusal::Sampler)] {
+        for entries in [16, 0] {
+            let sampler = [16, words_said, 21, 0];
+            let answer = calls::bottomup(&sampler, &words, 0..11, 2, &mut store[..entries], &mut bins, &mut order, &mut finding);
+            assert_eq!((answer, bins, order, store, finding), (refusal.number(), [9; 4], [9; 4], [9; 16], [0; 25]));
+        }
+    }
     assert_eq!((calls::blocks(&[16, 16, 21, 1]), calls::blocks(&[16, 16, 21]), calls::blocks(&[0, 16, 21, 0])), (10, 0, 0));
 }
 
@@ -65,8 +69,8 @@ fn low_first_is_high_first_of_reversed_bytes() {
     high.feed(&reversed).unwrap();
     for stretch in [0..200, 63..65, 5..193, 30..30] {
         for k in 1..5 {
-            let (found, other) = (low.search_layered_in(stretch.clone(), k).unwrap(), high.search_layered_in(stretch.clone(), k).unwrap());
-            assert_eq!(low.search_direct_in(stretch.clone(), k).as_ref(), Ok(&found));
+            let (found, other) = (low.search_in(stretch.clone(), k).unwrap(), high.search_in(stretch.clone(), k).unwrap());
+            assert_eq!(low.search_with(stretch.clone(), k, &mut []).as_ref(), Ok(&found));
             assert_eq!((found.bit_order(), other.bit_order()), (LowFirst, HighFirst));
             assert_eq!((found.bits(), found.order(), found.counts()), (other.bits(), other.order(), other.counts()));
             assert_eq!((found.division(), found.z().to_bits()), (other.division(), other.z().to_bits()));
@@ -98,8 +102,10 @@ fn other_bit_orders() {
             assert_eq!((sampler, words, calls::blocks(&sampler)), (lent, [9; 16], 0));
             let (mut bins, mut order, mut store, mut finding) = ([9; 4], [9; 4], [9; 16], [9; 25]);
             let (bins, order) = (&mut bins[..room], &mut order[..room]);
-            assert_eq!(calls::brute_force_threads(&sampler, &words, stretch.clone(), k, bins, order, &mut finding), Refusal::BitOrder.number());
-            assert_eq!(calls::brute_force(&sampler, &words, stretch, k, &mut store, bins, order, &mut finding), Refusal::BitOrder.number());
+            for entries in [16, 0] {
+                let answer = calls::bottomup(&sampler, &words, stretch.clone(), k, &mut store[..entries], bins, order, &mut finding);
+                assert_eq!(answer, Refusal::BitOrder.number());
+            }
             assert_eq!((&bins[..], &order[..], store, finding), (&[9; 4][..room], &[9; 4][..room], [9; 16], [9; 25]));
         }
         for (block_size, width) in [(8, 2), (12, 0)] {
@@ -113,7 +119,7 @@ fn other_bit_orders() {
     }
     // A record that is too short comes first.
     assert_eq!(calls::feed(&mut [16, 16, 21], &mut [0; 16], &[]), Refusal::ShortRecord.number());
-    assert_eq!(calls::brute_force_threads(&[16, 16, 0, 2], &[0; 16], 0..0, 1, &mut [0; 2], &mut [0; 2], &mut [0; 24]), Refusal::ShortRecord.number());
+    assert_eq!(calls::bottomup(&[16, 16, 0, 2], &[0; 16], 0..0, 1, &mut [], &mut [0; 2], &mut [0; 2], &mut [0; 24]), Refusal::ShortRecord.number());
     assert_eq!(calls::validate(&[2; 24], &[], &mut []), Refusal::ShortRecord.number());
 }
 
@@ -127,24 +133,53 @@ fn narrower_sets() -> Vec<Vec<u32>> {
 #[test]
 fn stores() {
     let bytes = [0x5A, 0x0F, 0xFF, 0x81, 0x8F];
-    let (mut sampler, mut words, mut store) = ([0; 4], [0; 8], [9; 256]);
-    assert_eq!(calls::start(8, false, &mut words, &mut sampler), 0);
-    assert_eq!(calls::feed(&mut sampler, &mut words, &bytes), 0);
-    let search = |store: &mut [u32]| calls::brute_force(&sampler, &words, 1..5, 8, store, &mut [0; 256], &mut [0; 256], &mut [0; 25]);
-    assert_eq!((search(&mut []), search(&mut store[..253])), (Refusal::Store.number(), Refusal::Store.number()));
-    assert_eq!(store, [9; 256]);
+    let mut sampler = Sampler::start(8, HighFirst, 64).unwrap();
+    sampler.feed(&bytes).unwrap();
+    let found = sampler.search_in(1..5, 8).unwrap();
+    let mut store = [9; 256];
+    for entries in [0, 8, 253] {
+        assert_eq!(sampler.search_with(1..5, 8, &mut store[..entries]).as_ref(), Ok(&found), "{entries} entries");
+        assert_eq!(store, [9; 256]);
+    }
     let with = |bits: &Vec<u32>| bytes[1..].iter().filter(|&byte| bits.iter().all(|bit| byte >> (7 - bit) & 1 == 1)).count() as u32;
     let counts: Vec<u32> = narrower_sets().iter().map(with).collect();
     for entries in [254, 256] {
-        assert_eq!(search(&mut store[..entries]), 0);
+        assert_eq!(sampler.search_with(1..5, 8, &mut store[..entries]).as_ref(), Ok(&found), "{entries} entries");
         assert_eq!((&store[..254], &store[254..]), (&counts[..], &[9, 9][..]));
     }
 
-    // That a store is long enough shows where a buffer, which is looked at after it, is not.
+    // Without a block every count is 0.
     let mut store = vec![9; 349_632];
-    let search = |store: &mut [u32]| calls::brute_force(&[128, 128, 0, 0], &[0; 128], 0..0, 4, store, &mut [0; 15], &mut [0; 16], &mut [0; 25]);
-    assert_eq!((search(&mut store[1..]), search(&mut store)), (Refusal::Store.number(), Refusal::Buffer.number()));
+    let empty = Sampler::start(128, HighFirst, 1).unwrap();
+    let found = empty.search_with(0..0, 4, &mut store[1..]).unwrap();
     assert!(store.iter().all(|&entry| entry == 9));
+    assert_eq!(empty.search_with(0..0, 4, &mut store), Ok(found));
+    assert!(store.iter().all(|&entry| entry == 0));
+
+    // Where a buffer is too short, a store of any length is as lent.
+    store.fill(9);
+    for entries in [349_632, 349_631, 0] {
+        let (mut order, mut finding) = ([9; 16], [9; 25]);
+        let answer = calls::bottomup(&[128, 128, 0, 0], &[0; 128], 0..0, 4, &mut store[..entries], &mut [9; 15], &mut order, &mut finding);
+        assert_eq!((answer, order, finding), (Refusal::Buffer.number(), [9; 16], [0; 25]));
+        assert!(store.iter().all(|&entry| entry == 9));
+    }
+}
+
+#[test]
+fn entries_of_stores() {
+    for (block_size, k, entries) in [
+        (8, 1, 8), (8, 2, 8), (8, 3, 36), (8, 7, 246), (8, 8, 254), (16, 16, 65_534), (24, 20, 16_764_264), (64, 5, 679_120), (128, 4, 349_632),
+        (128, 6, 275_584_032), (4096, 2, 4_096), (4096, 3, 8_390_656),
+    ] {
+        assert_eq!(store_needed(block_size, k), entries, "B {block_size}, k {k}");
+    }
+    // Above 2^32, by a little and past any word; no block size; no width of the block.
+    for (block_size, k) in [
+        (128, 7), (4096, 4), (4096, 20), (0, 1), (7, 1), (12, 2), (4104, 2), (usize::MAX, 1), (8, 0), (8, 9), (16, 20), (4096, 21), (8, usize::MAX),
+    ] {
+        assert_eq!(store_needed(block_size, k), 0, "B {block_size}, k {k}");
+    }
 }
 
 #[test]
@@ -153,11 +188,9 @@ fn refusals() {
     assert_eq!(Sampler::start(4104, HighFirst, 1).unwrap_err().number(), 1);
     let mut started = [9; 4];
     assert_eq!((calls::start(4104, true, &mut [], &mut started), started), (Refusal::BlockSize.number(), [0; 4]));
-    assert_eq!(sampler.search_direct(0).unwrap_err(), Refusal::Width);
-    assert_eq!(sampler.search_layered(21).unwrap_err(), Refusal::Width);
-    assert_eq!(sampler.search_layered(9).unwrap_err(), Refusal::WidthAboveBlock);
-    for k in [4, 20] {
-        assert_eq!(Sampler::start(4096, HighFirst, 1).unwrap().search_layered(k).unwrap_err(), Refusal::Store);
+    for (k, refusal) in [(0, Refusal::Width), (21, Refusal::Width), (9, Refusal::WidthAboveBlock)] {
+        assert_eq!(sampler.search(k), Err(refusal));
+        assert_eq!(sampler.search_with(0..0, k, &mut []), Err(refusal));
     }
     assert_eq!(Finding::checked(8, HighFirst, &[1, 1], &[0, 1, 2, 3], 1), Err(Refusal::BitsNotRising));
     assert_eq!(Finding::checked(8, HighFirst, &[1, 8], &[0, 1, 2, 3], 1), Err(Refusal::BitOutside));
@@ -181,7 +214,7 @@ fn texts() {
     let mut sampler = Sampler::start(16, HighFirst, 100).unwrap();
     sampler.feed(&bytes).unwrap();
     for k in 1..6 {
-        let found = sampler.search_layered(k).unwrap();
+        let found = sampler.search(k).unwrap();
         let text = found.to_json();
         let again = Finding::from_json(text.as_bytes()).unwrap();
         assert_eq!(again, Finding::checked(16, HighFirst, found.bits(), found.order(), found.division()).unwrap());

@@ -152,14 +152,7 @@ module _ (B : ℕ) (low : Bool) (held : List ℕ) (first end k : ℕ) (f : Findi
       }
 
 pub searches-exchange : SearchesExchange
-searches-exchange B low ws pieces answers s ws′ acquired =
-    let claim = claims B low ws pieces answers s ws′ acquired in
-    let agree = all-agree B low ws pieces answers s ws′ acquired in
-    let held = recording B (length ws) pieces in
-    record {
-      direct = λ first end k bins order r bins′ order′ S z.
-          passes B low held first end k (r .finding) bins′ order′ (claim .direct first end k bins order r bins′ order′ S .best z) (agree .direct first end k bins order r bins′ order′ S z);
-      layered = λ first end k store bins order r store′ bins′ order′ S z.
-          passes B low held first end k (r .finding) bins′ order′ (claim .layered first end k store bins order r store′ bins′ order′ S .0 .best z)
-          (agree .layered first end k store bins order r store′ bins′ order′ S z);
-    }
+searches-exchange B low ws pieces answers s ws′ acquired first end k store bins order r store′ bins′ order′ S z =
+    passes B low (recording B (length ws) pieces) first end k (r .finding) bins′ order′
+    (claims B low ws pieces answers s ws′ acquired .search first end k store bins order r store′ bins′ order′ S .best z)
+    (all-agree B low ws pieces answers s ws′ acquired first end k store bins order r store′ bins′ order′ S z)

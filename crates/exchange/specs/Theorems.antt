@@ -9,7 +9,7 @@ use Rattle.counting.specs.declared.sampling.Sampler.{Sampler}
 use Rattle.subsets.specs.Subsets.{padded}
 use Rattle.ranking.specs.Ranking.{zeroScore}
 use Rattle.searching.specs.Claim.{Acquisition}
-use Rattle.searching.specs.Search.{DirectSearch, LayeredSearch}
+use Rattle.searching.specs.Search.{BottomupSearch}
 use Rattle.searching.specs.declared.finding.Finding.{Finding}
 use Rattle.searching.specs.declared.finding.Searched.{Searched}
 use Rattle.judging.specs.Check.{chosen, checkRefusal}
@@ -62,18 +62,9 @@ pub record Passes (k : ℕ) (f : Finding) (order : List ℕ) : Type 0 where
       → 2 ^ k ≤ length order₂ → 2 ^ k ≤ length scratch₂
       → (r ≡ record { refusal = 0; finding = scoreless f }) × (take (2 ^ k) order₂′ ≡ order)
 
--- Theorem: that holds of what each search leaves after a start that is not refused and any feeds, where the search is not refused.
-pub record SearchesPass (s : Sampler) (ws′ : List ℕ) : Type 0 where
-  pub direct :
-      (first end k : ℕ) (bins order : List ℕ) (r : Searched) (bins′ order′ : List ℕ) → DirectSearch s ws′ first end k bins order r bins′ order′ → r .refusal ≡ 0
-      → Passes k (r .finding) (take (2 ^ k) order′)
-  pub layered :
-      (first end k : ℕ) (store bins order : List ℕ) (r : Searched) (store′ bins′ order′ : List ℕ)
-      → LayeredSearch s ws′ first end k store bins order r store′ bins′ order′ → r .refusal ≡ 0
-      → Passes k (r .finding) (take (2 ^ k) order′)
-
--- Theorem: after every such start and all such feeds.
+-- Theorem: that holds of what a search leaves after a start that is not refused and any feeds, where the search is not refused.
 abbrev pub SearchesExchange : Type 0
 SearchesExchange =
-    (B : ℕ) (low : Bool) (ws : List ℕ) (pieces : List (List ℕ)) (answers : List ℕ) (s : Sampler) (ws′ : List ℕ)
-    → Acquisition B low ws pieces answers s ws′ → SearchesPass s ws′
+    (B : ℕ) (low : Bool) (ws : List ℕ) (pieces : List (List ℕ)) (answers : List ℕ) (s : Sampler) (ws′ : List ℕ) → Acquisition B low ws pieces answers s ws′
+    → (first end k : ℕ) (store bins order : List ℕ) (r : Searched) (store′ bins′ order′ : List ℕ)
+    → BottomupSearch s ws′ first end k store bins order r store′ bins′ order′ → r .refusal ≡ 0 → Passes k (r .finding) (take (2 ^ k) order′)

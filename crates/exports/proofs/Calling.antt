@@ -12,7 +12,7 @@ use Rattle.counting.specs.declared.sampling.Sampler.{Sampler}
 use Rattle.counting.specs.declared.sampling.Started.{Started}
 use Rattle.counting.specs.declared.sampling.Fed.{Fed}
 use Rattle.searching.proofs.Refusing.{passed}
-use Rattle.searching.specs.Search.{DirectSearch, LayeredSearch}
+use Rattle.searching.specs.Search.{BottomupSearch}
 use Rattle.searching.specs.declared.finding.Searched.{Searched}
 use Rattle.judging.specs.Evaluation.{evaluatedOf, evaluatedScratch}
 use Rattle.judging.specs.Plan.{planOf}
@@ -23,7 +23,7 @@ use Rattle.exchange.specs.Exchange.{Writes, Reads}
 use Rattle.exchange.specs.declared.reader.Reading.{Reading}
 use Rattle.exchange.specs.declared.writer.Written.{Written}
 use Rattle.exports.specs.Records.{samplerNumbers, samplerOf, findingNumbers, findingRead, evaluatedNumbers, planNumbers, written, samplerUnread, searchUnread, findingUnread, evaluationUnread}
-use Rattle.exports.specs.Calls.{StartCall, FeedCall, Answered, DirectCall, LayeredCall, EvaluateCall, WriteCall, ReadCall, SplitCall, PlanCall}
+use Rattle.exports.specs.Calls.{StartCall, FeedCall, Answered, BottomupCall, EvaluateCall, WriteCall, ReadCall, SplitCall, PlanCall}
 
 -- ---- records that can be read
 
@@ -85,7 +85,7 @@ feed-made sampler ws piece given a sampler′ ws′ room g e w s =
 pub feed-unread : (sampler ws piece : List ℕ) (r : ℕ) → r ≡ samplerUnread sampler → (r ≡ 0 → ⊥) → FeedCall sampler ws piece r sampler ws
 feed-unread sampler ws piece r e some = record { made = λ m. absurd (some (e ∙ m)); refused = λ h. (e, refl, refl) }
 
--- ---- the searches
+-- ---- the search
 
 answered : (a b : Searched) (finding finding′ : List ℕ) → a ≡ b → finding′ ≡ written (findingNumbers (a .finding)) finding → Answered b finding (a .refusal) finding′
 answered a b finding finding′ e w =
@@ -94,35 +94,16 @@ answered a b finding finding′ e w =
       wrote = w ∙ ap (λ (x : Searched). written (findingNumbers (x .finding)) finding) e;
     }
 
-pub direct-made :
-    (sampler ws : List ℕ) (first end k : ℕ) (bins order finding : List ℕ) (given : Sampler) (a : Searched) (bins′ order′ finding′ : List ℕ)
-    → searchUnread sampler (length finding) ≡ 0
-    → given ≡ samplerOf sampler
-    → DirectSearch given ws first end k bins order a bins′ order′
-    → finding′ ≡ written (findingNumbers (a .finding)) finding
-    → DirectCall sampler ws first end k bins order finding (a .refusal) bins′ order′ finding′
-direct-made sampler ws first end k bins order finding given a bins′ order′ finding′ room g d w =
-    let s : DirectSearch (samplerOf sampler) ws first end k bins order a bins′ order′ = subst (λ (x : Sampler). DirectSearch x ws first end k bins order a bins′ order′) g d in
-    record {
-      made = λ h. (record { answered = refl; counted = s .counted; ordered = s .ordered }, answered a _ finding finding′ (s .answered) w);
-      refused = λ h. absurd (h room);
-    }
-
-pub direct-unread :
-    (sampler ws : List ℕ) (first end k : ℕ) (bins order finding : List ℕ) (r : ℕ) → r ≡ searchUnread sampler (length finding) → (r ≡ 0 → ⊥)
-    → DirectCall sampler ws first end k bins order finding r bins order finding
-direct-unread sampler ws first end k bins order finding r e some = record { made = λ m. absurd (some (e ∙ m)); refused = λ h. (e, refl, refl, refl) }
-
-pub layered-made :
+pub bottomup-made :
     (sampler ws : List ℕ) (first end k : ℕ) (store bins order finding : List ℕ) (given : Sampler) (a : Searched) (store′ bins′ order′ finding′ : List ℕ)
     → searchUnread sampler (length finding) ≡ 0
     → given ≡ samplerOf sampler
-    → LayeredSearch given ws first end k store bins order a store′ bins′ order′
+    → BottomupSearch given ws first end k store bins order a store′ bins′ order′
     → finding′ ≡ written (findingNumbers (a .finding)) finding
-    → LayeredCall sampler ws first end k store bins order finding (a .refusal) store′ bins′ order′ finding′
-layered-made sampler ws first end k store bins order finding given a store′ bins′ order′ finding′ room g d w =
-    let s : LayeredSearch (samplerOf sampler) ws first end k store bins order a store′ bins′ order′ =
-    subst (λ (x : Sampler). LayeredSearch x ws first end k store bins order a store′ bins′ order′) g d in
+    → BottomupCall sampler ws first end k store bins order finding (a .refusal) store′ bins′ order′ finding′
+bottomup-made sampler ws first end k store bins order finding given a store′ bins′ order′ finding′ room g d w =
+    let s : BottomupSearch (samplerOf sampler) ws first end k store bins order a store′ bins′ order′ =
+    subst (λ (x : Sampler). BottomupSearch x ws first end k store bins order a store′ bins′ order′) g d in
     record {
       made = λ h. (
         record {
@@ -134,10 +115,10 @@ layered-made sampler ws first end k store bins order finding given a store′ bi
       refused = λ h. absurd (h room);
     }
 
-pub layered-unread :
+pub bottomup-unread :
     (sampler ws : List ℕ) (first end k : ℕ) (store bins order finding : List ℕ) (r : ℕ) → r ≡ searchUnread sampler (length finding) → (r ≡ 0 → ⊥)
-    → LayeredCall sampler ws first end k store bins order finding r store bins order finding
-layered-unread sampler ws first end k store bins order finding r e some =
+    → BottomupCall sampler ws first end k store bins order finding r store bins order finding
+bottomup-unread sampler ws first end k store bins order finding r e some =
     record { made = λ m. absurd (some (e ∙ m)); refused = λ h. (e, refl, refl, refl, refl) }
 
 -- ---- judging

@@ -9,8 +9,8 @@ use lib.ListN.{length}
 use Rattle.counting.specs.Sampling.{startedOf, startedWords, blocksOf, fedOf, fedWords}
 use Rattle.counting.specs.Stretch.{stretchOf, stretchBit, span}
 use Rattle.counting.specs.declared.sampling.Sampler.{Sampler}
-use Rattle.searching.specs.Refusal.{directRefusal, layeredRefusal}
-use Rattle.searching.specs.Search.{answerOf, DirectSearch, LayeredSearch}
+use Rattle.searching.specs.Refusal.{bottomupRefusal}
+use Rattle.searching.specs.Search.{answerOf, BottomupSearch}
 use Rattle.searching.specs.declared.finding.Searched.{Searched}
 use Rattle.judging.specs.Check.{checkRefusal, checkedScratch}
 use Rattle.judging.specs.Evaluation.{evaluatedOf, evaluatedScratch}
@@ -47,36 +47,18 @@ pub record Answered (a : Searched) (finding : List ℕ) (r : ℕ) (finding′ : 
   pub refusal : r ≡ a .refusal
   pub wrote : finding′ ≡ written (findingNumbers (a .finding)) finding
 
--- what a search of the blocks from `first` to before `end` answers, with the refusal r
-abbrev pub stretchAnswer : ℕ → Sampler → List ℕ → ℕ → ℕ → ℕ → Searched
-stretchAnswer r s ws first end k =
+-- what `bottomup` answers, whatever store it is lent
+abbrev pub bottomupAnswer : Sampler → List ℕ → ℕ → ℕ → ℕ → List ℕ → List ℕ → Searched
+bottomupAnswer s ws first end k bins order =
     let x = stretchOf s (length ws) first end in
-    answerOf r (s .«low_first») (stretchBit x ws) (span x) (s .«block_size») k
+    answerOf (bottomupRefusal s (length ws) first end k (length bins) (length order)) (s .«low_first») (stretchBit x ws) (span x) (s .«block_size») k
 
--- what the direct search answers
-abbrev pub directAnswer : Sampler → List ℕ → ℕ → ℕ → ℕ → List ℕ → List ℕ → Searched
-directAnswer s ws first end k bins order =
-    stretchAnswer (directRefusal s (length ws) first end k (length bins) (length order)) s ws first end k
-
--- `brute_force_threads`, the sampler read from one slice and the finding written to another
-pub record DirectCall (sampler ws : List ℕ) (first end k : ℕ) (bins order finding : List ℕ) (r : ℕ) (bins′ order′ finding′ : List ℕ) : Type 0 where
+-- `bottomup`, the sampler read from one slice and the finding written to another
+pub record BottomupCall (sampler ws : List ℕ) (first end k : ℕ) (store bins order finding : List ℕ) (r : ℕ) (store′ bins′ order′ finding′ : List ℕ) : Type 0 where
   pub made :
       searchUnread sampler (length finding) ≡ 0
-      → DirectSearch (samplerOf sampler) ws first end k bins order (directAnswer (samplerOf sampler) ws first end k bins order) bins′ order′
-      × Answered (directAnswer (samplerOf sampler) ws first end k bins order) finding r finding′
-  pub refused : (searchUnread sampler (length finding) ≡ 0 → ⊥) → (r ≡ searchUnread sampler (length finding)) × (bins′ ≡ bins) × (order′ ≡ order) × (finding′ ≡ finding)
-
--- what the layered search answers
-abbrev pub layeredAnswer : Sampler → List ℕ → ℕ → ℕ → ℕ → List ℕ → List ℕ → List ℕ → Searched
-layeredAnswer s ws first end k store bins order =
-    stretchAnswer (layeredRefusal s (length ws) first end k (length store) (length bins) (length order)) s ws first end k
-
--- `brute_force`, in the same way
-pub record LayeredCall (sampler ws : List ℕ) (first end k : ℕ) (store bins order finding : List ℕ) (r : ℕ) (store′ bins′ order′ finding′ : List ℕ) : Type 0 where
-  pub made :
-      searchUnread sampler (length finding) ≡ 0
-      → LayeredSearch (samplerOf sampler) ws first end k store bins order (layeredAnswer (samplerOf sampler) ws first end k store bins order) store′ bins′ order′
-      × Answered (layeredAnswer (samplerOf sampler) ws first end k store bins order) finding r finding′
+      → BottomupSearch (samplerOf sampler) ws first end k store bins order (bottomupAnswer (samplerOf sampler) ws first end k bins order) store′ bins′ order′
+      × Answered (bottomupAnswer (samplerOf sampler) ws first end k bins order) finding r finding′
   pub refused :
       (searchUnread sampler (length finding) ≡ 0 → ⊥)
       → (r ≡ searchUnread sampler (length finding)) × (store′ ≡ store) × (bins′ ≡ bins) × (order′ ≡ order) × (finding′ ≡ finding)

@@ -3,9 +3,10 @@
 // for the bit order is neither 0 nor 1 with 27, and nothing is written.
 ghost use mathlib.Core.Path.{_≡_};
 ghost use lib.ListN.{length};
+ghost use Rattle.layers.specs.Store.{storeNeeded};
 ghost use Rattle.subsets.specs.Rank.{rankedOf};
 ghost use Rattle.exchange.specs.Length.{longestText};
-ghost use Rattle.exports.specs.Calls.{StartCall, FeedCall, blocksCall, DirectCall, LayeredCall, CheckCall, EvaluateCall, WriteCall, ReadCall, SplitCall, PlanCall};
+ghost use Rattle.exports.specs.Calls.{StartCall, FeedCall, blocksCall, BottomupCall, CheckCall, EvaluateCall, WriteCall, ReadCall, SplitCall, PlanCall};
 ghost use Rattle.exports.specs.Single.{RankingCall};
 use crate::findings::evaluate_lent;
 use crate::findings::validate_lent;
@@ -32,10 +33,10 @@ use judging::plan::configurations;
 use judging::split::first_part;
 use judging::split::second_part;
 use judging::split::split_refusal;
+use layers::size::store_needed;
 use ranking::ranking::bin_count;
 use ranking::ranking::from_bins;
-use searching::search::brute_force;
-use searching::search::brute_force_threads;
+use searching::search::bottomup;
 
 mod findings;
 mod records;
@@ -84,32 +85,9 @@ pub extern "C" fn jimrawel_blocks(sampler: &[u64]) -> usize
     blocks(read_sampler(sampler))
 }
 
-// The direct search of the blocks from `first` to before `end`. Refusals 25, 27, 4, 18, 2, 3, 7.
+// The search of the blocks from `first` to before `end`, with a store of any length. Refusals 25, 27, 4, 18, 2, 3, 7.
 #[no_mangle]
-pub extern "C" fn jimrawel_brute_force_threads(
-    sampler: &[u64],
-    words: &[u64],
-    first: usize,
-    end: usize,
-    k: usize,
-    bins: &mut [u32],
-    order: &mut [u32],
-    finding: &mut [u64],
-) -> u32
-    ensures { λ r. ⌜ DirectCall (now (sampler .entry)) (now (words .entry)) first end k (now (bins .entry)) (now (order .entry)) (now (finding .entry)) r (now (bins .exit)) (now (order .exit)) (now (finding .exit)) ⌝ }
-{
-    let unread = search_unread(sampler, finding.len());
-    if unread != 0 {
-        return unread;
-    }
-    let searched = brute_force_threads(read_sampler(sampler), words, first, end, k, bins, order);
-    write_finding(searched.finding, finding);
-    searched.refusal
-}
-
-// The layered search of these blocks. Refusals 25, 27, 4, 18, 2, 3, 6, 7.
-#[no_mangle]
-pub extern "C" fn jimrawel_brute_force(
+pub extern "C" fn jimrawel_bottomup(
     sampler: &[u64],
     words: &[u64],
     first: usize,
@@ -120,13 +98,13 @@ pub extern "C" fn jimrawel_brute_force(
     order: &mut [u32],
     finding: &mut [u64],
 ) -> u32
-    ensures { λ r. ⌜ LayeredCall (now (sampler .entry)) (now (words .entry)) first end k (now (store .entry)) (now (bins .entry)) (now (order .entry)) (now (finding .entry)) r (now (store .exit)) (now (bins .exit)) (now (order .exit)) (now (finding .exit)) ⌝ }
+    ensures { λ r. ⌜ BottomupCall (now (sampler .entry)) (now (words .entry)) first end k (now (store .entry)) (now (bins .entry)) (now (order .entry)) (now (finding .entry)) r (now (store .exit)) (now (bins .exit)) (now (order .exit)) (now (finding .exit)) ⌝ }
 {
     let unread = search_unread(sampler, finding.len());
     if unread != 0 {
         return unread;
     }
-    let searched = brute_force(
+    let searched = bottomup(
         read_sampler(sampler),
         words,
         first,
@@ -138,6 +116,14 @@ pub extern "C" fn jimrawel_brute_force(
     );
     write_finding(searched.finding, finding);
     searched.refusal
+}
+
+// How many entries a store must have for the search to be made by layers; 0 where no store makes it so.
+#[no_mangle]
+pub extern "C" fn jimrawel_store_needed(block_size: usize, k: usize) -> usize
+    ensures { λ r. ⌜ r ≡ storeNeeded «block_size» k ⌝ }
+{
+    store_needed(block_size, k)
 }
 
 // The rank of the bits, all of them chosen, in a block. Refusals 1, 2, 3, 9, 10, 12.

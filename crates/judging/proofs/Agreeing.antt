@@ -11,7 +11,6 @@ use Rattle.counting.specs.Block.{validSize}
 use Rattle.counting.specs.Recording.{recording, blocksIn, recordedBit}
 use Rattle.counting.specs.Sample.{total}
 use Rattle.counting.specs.Stretch.{stretchBytes}
-use Rattle.counting.specs.declared.sampling.Sampler.{Sampler}
 use Rattle.counting.proofs.Accepted.{valid-facts, room-blocks}
 use Rattle.counting.proofs.Alone.{stretches-alone}
 use Rattle.counting.proofs.Recorded.{all-recorded}
@@ -22,25 +21,20 @@ use Rattle.ranking.specs.Ranking.{inBinOrder, sizeAt}
 use Rattle.ranking.proofs.Dividing.{score-low, score-high, ranking-is-right}
 use Rattle.ranking.proofs.Sorting.{order-permutes}
 use Rattle.ranking.proofs.Totals.{order-length}
-use Rattle.subsets.specs.Bits.{validWidth}
+use Rattle.subsets.proofs.Refusing.{valid-width}
 use Rattle.subsets.proofs.Testing.{not-refused}
 use Rattle.searching.proofs.Filled.{length-counts}
-use Rattle.searching.proofs.Refusing.{SearchFree, direct-free, layered-free, said-is}
+use Rattle.searching.proofs.Refusing.{bottomup-free, said-is}
 use Rattle.searching.proofs.Claiming.{claims, acquired-valid}
 use Rattle.searching.proofs.Stretches.{whole-recordings, best-alone}
-use Rattle.searching.specs.Claim.{Acquisition, BestIn, BestOf}
-use Rattle.searching.specs.Search.{StretchSearch}
-use Rattle.searching.specs.declared.finding.Searched.{Searched}
+use Rattle.searching.specs.Claim.{BestOf}
+use Rattle.searching.specs.Refusal.{bottomupRefusal}
 use Rattle.searching.specs.declared.finding.Finding.{Finding}
 use Rattle.judging.specs.Permutation.{eachOnce, Permutation}
 use Rattle.judging.specs.Check.{chosen, limitRefusal, lengthRefusal, shapeRefusal, scratchRefusal, divisionRefusal, orderRefusal}
 use Rattle.judging.specs.Evaluation.{countsIn, positiveOf, positiveIn, zIn, blocksRefusal, earlyEvaluationRefusal, evaluationRefusal}
 use Rattle.judging.specs.Agreement.{Agrees, FindingsAgree, AllAgree}
 use Rattle.judging.proofs.Once.{once-permutes}
-
-valid-width : (k : ℕ) → 1 ≤ k → k ≤ 20 → validWidth k ≡ true
-unfolding validWidth
-valid-width k low high = rw (le-leb 1 k low, le-leb k 20 high) refl
 
 module _ (B : ℕ) (low : Bool) (held : List ℕ) (k : ℕ) (f : Finding) (bins order : List ℕ) (scratch : ℕ)
     (W : validSize B ≡ true) (K : 1 ≤ k) (L : k ≤ 20) (M : blocksIn B held ≤ 16777216) (S : 2 ^ k ≤ scratch)
@@ -111,33 +105,16 @@ findings-agree B low held k f bins order scratch W K L M S best =
 
 -- ---- after an acquisition
 
-module _ (B : ℕ) (low : Bool) (ws : List ℕ) (pieces : List (List ℕ)) (answers : List ℕ) (s : Sampler) (ws′ : List ℕ) (acquired : Acquisition B low ws pieces answers s ws′) where
-  abbrev held : List ℕ
-  held = recording B (length ws) pieces
-
-  -- the stretch of a search that is not refused
-  searched-agrees : (d first end k : ℕ) (bins order : List ℕ) (r : Searched) (bins′ order′ : List ℕ) → StretchSearch d s ws′ first end k bins order r bins′ order′
-      → (d ≡ 0 → SearchFree s (length ws′) first end k) → BestIn B low held first end k (r .finding) bins′ order′ → r .refusal ≡ 0
-      → (scratch : ℕ) → 2 ^ k ≤ scratch → Agrees B (stretchBytes B held first end) k (r .finding) bins′ order′ scratch
-  searched-agrees d first end k bins order r bins′ order′ S free best z scratch room =
-      let valid = acquired-valid acquired in
-      let f = free (sym (said-is d _ _ _ _ k r (S .answered)) ∙ z) in
-      let has : end ≤ blocksIn B held = omega (arith, f .ordered .held, whole-recordings B low ws pieces answers s ws′ acquired .blocks) in
-      let all : blocksIn B held ≤ 16777216 =
-      le-trans (room-blocks B (length ws) (length held) (valid-facts B valid) (all-recorded B low ws valid pieces .holds .within)) (min-le-right _ _) in
-      let few : blocksIn B (stretchBytes B held first end) ≤ 16777216 = omega (arith, stretches-alone B low held first end valid (f .ordered .order) has .blocks) in
-      findings-agree B low (stretchBytes B held first end) k (r .finding) bins′ order′ scratch valid (f .width .some) (f .width .width) few room
-      (best-alone B low held first end k (r .finding) bins′ order′ valid (f .ordered .order) has best)
-
 pub all-agree : AllAgree
-all-agree B low ws pieces answers s ws′ acquired =
-    let claim = claims B low ws pieces answers s ws′ acquired in
-    record {
-      direct = λ first end k bins order r bins′ order′ S z.
-          searched-agrees B low ws pieces answers s ws′ acquired _ first end k bins order r bins′ order′ S
-          (λ e. direct-free s (length ws′) first end k (length bins) (length order) e .search) (claim .direct first end k bins order r bins′ order′ S .best z) z;
-      layered = λ first end k store bins order r store′ bins′ order′ S z.
-          searched-agrees B low ws pieces answers s ws′ acquired _ first end k bins order r bins′ order′ (S .search)
-          (λ e. layered-free s (length ws′) first end k (length store) (length bins) (length order) e .search)
-          (claim .layered first end k store bins order r store′ bins′ order′ S .0 .best z) z;
-    }
+all-agree B low ws pieces answers s ws′ acquired first end k store bins order r store′ bins′ order′ S z scratch room =
+    let held = recording B (length ws) pieces in
+    let valid = acquired-valid acquired in
+    let d = bottomupRefusal s (length ws′) first end k (length bins) (length order) in
+    let f = bottomup-free s (length ws′) first end k (length bins) (length order) (sym (said-is d _ _ _ _ k r (S .search .answered)) ∙ z) .search in
+    let has : end ≤ blocksIn B held = omega (arith, f .ordered .held, whole-recordings B low ws pieces answers s ws′ acquired .blocks) in
+    let all : blocksIn B held ≤ 16777216 =
+    le-trans (room-blocks B (length ws) (length held) (valid-facts B valid) (all-recorded B low ws valid pieces .holds .within)) (min-le-right _ _) in
+    let few : blocksIn B (stretchBytes B held first end) ≤ 16777216 = omega (arith, stretches-alone B low held first end valid (f .ordered .order) has .blocks) in
+    let best = claims B low ws pieces answers s ws′ acquired .search first end k store bins order r store′ bins′ order′ S .best z in
+    findings-agree B low (stretchBytes B held first end) k (r .finding) bins′ order′ scratch valid (f .width .some) (f .width .width) few room
+    (best-alone B low held first end k (r .finding) bins′ order′ valid (f .ordered .order) has best)

@@ -12,7 +12,7 @@ use Rattle.counting.specs.declared.sampling.Sampler.{Sampler}
 use Rattle.ranking.specs.Ranking.{inBinOrder}
 use Rattle.scoring.specs.Score.{abs}
 use Rattle.searching.specs.Claim.{Acquisition, BestOf}
-use Rattle.searching.specs.Search.{DirectSearch, LayeredSearch}
+use Rattle.searching.specs.Search.{BottomupSearch}
 use Rattle.searching.specs.declared.finding.Finding.{Finding}
 use Rattle.searching.specs.declared.finding.Searched.{Searched}
 use Rattle.judging.specs.Evaluation.{countsIn, positiveIn, zIn, evaluationRefusal}
@@ -35,18 +35,11 @@ FindingsAgree =
     → validSize B ≡ true → 1 ≤ k → k ≤ 20 → blocksIn B held ≤ 16777216 → 2 ^ k ≤ scratch
     → BestOf B low held k f bins order → Agrees B held k f bins order scratch
 
--- Theorem: it holds of what each search leaves after a start that is not refused and any feeds, where the search is not refused, and of the bytes of its
+-- Theorem: it holds of what a search leaves after a start that is not refused and any feeds, where the search is not refused, and of the bytes of its
 -- stretch of the recording.
-pub record SearchesAgree (B : ℕ) (ws : List ℕ) (pieces : List (List ℕ)) (s : Sampler) (ws′ : List ℕ) : Type 0 where
-  pub direct :
-      (first end k : ℕ) (bins order : List ℕ) (r : Searched) (bins′ order′ : List ℕ) → DirectSearch s ws′ first end k bins order r bins′ order′ → r .refusal ≡ 0
-      → (scratch : ℕ) → 2 ^ k ≤ scratch → Agrees B (stretchBytes B (recording B (length ws) pieces) first end) k (r .finding) bins′ order′ scratch
-  pub layered :
-      (first end k : ℕ) (store bins order : List ℕ) (r : Searched) (store′ bins′ order′ : List ℕ)
-      → LayeredSearch s ws′ first end k store bins order r store′ bins′ order′ → r .refusal ≡ 0
-      → (scratch : ℕ) → 2 ^ k ≤ scratch → Agrees B (stretchBytes B (recording B (length ws) pieces) first end) k (r .finding) bins′ order′ scratch
-
 abbrev pub AllAgree : Type 0
 AllAgree =
-    (B : ℕ) (low : Bool) (ws : List ℕ) (pieces : List (List ℕ)) (answers : List ℕ) (s : Sampler) (ws′ : List ℕ)
-    → Acquisition B low ws pieces answers s ws′ → SearchesAgree B ws pieces s ws′
+    (B : ℕ) (low : Bool) (ws : List ℕ) (pieces : List (List ℕ)) (answers : List ℕ) (s : Sampler) (ws′ : List ℕ) → Acquisition B low ws pieces answers s ws′
+    → (first end k : ℕ) (store bins order : List ℕ) (r : Searched) (store′ bins′ order′ : List ℕ)
+    → BottomupSearch s ws′ first end k store bins order r store′ bins′ order′ → r .refusal ≡ 0
+    → (scratch : ℕ) → 2 ^ k ≤ scratch → Agrees B (stretchBytes B (recording B (length ws) pieces) first end) k (r .finding) bins′ order′ scratch

@@ -2,13 +2,13 @@
 use mathlib.Core.Path.{refl}
 use Rattle.counting.specs.Block.{binOf}
 use Rattle.counting.specs.Sample.{countIn}
-use Rattle.layers.specs.Store.{storeTo, sizeTo, storeRefusal}
+use Rattle.layers.specs.Store.{storeTo, sizeTo}
 use Rattle.layers.specs.Settle.{chosen}
 use Rattle.layers.specs.Examples.{twoBlocks, StoreOfEight, StoreOfTwo}
 
 pub store-of-eight : StoreOfEight
-unfolding sizeTo storeRefusal
-store-of-eight = (refl, refl, refl)
+unfolding sizeTo
+store-of-eight = refl
 
 pub store-of-two : StoreOfTwo
 unfolding storeTo sizeTo countIn binOf twoBlocks chosen

@@ -1,17 +1,20 @@
--- The size of the store: the sum over the widths, exact up to 2^32, and what a store that is not refused has.
+-- The size of the store: the sum over the widths, exact up to 2^32, what a store that suffices has, and how long it must be.
 use mathlib.Core.Path.{_≡_, refl, ap, _∙_}
-use mathlib.Core.Bool.{Bool, true, false, cond}
+use mathlib.Core.Bool.{Bool, true, false, _&&_}
 use Prim.Native.Nat.{ℕ, zero, suc, _+_, _-_, _^_, _≤_, _<_}
 use native.Mathlib.Omega.{arith}
 use native.Mathlib.Numerals.{add-one}
 use native.Mathlib.Decide.{ℕ-discrete}
 use lib.Dec.{leb}
 use borrow.Author.Tests.{leb-true, le-leb, lt-leb}
+use Rattle.counting.specs.Block.{validSize}
+use Rattle.counting.proofs.Accepted.{both, valid-facts}
+use Rattle.subsets.specs.Bits.{validWidth}
 use Rattle.subsets.specs.Subsets.{numbersFrom}
 use Rattle.subsets.specs.Choose.{choose, upTo, chooseUpTo}
 use Rattle.subsets.proofs.Ranking.{ranks}
 use Rattle.subsets.proofs.Visiting.{numbers-subset}
-use Rattle.layers.specs.Store.{sizeTo, widest, storeSize, storeRefusal, StoreSuffices}
+use Rattle.layers.specs.Store.{sizeTo, widest, storeSize, storeSuffices, Roomy, SufficesRoomy, storeNeeded, NeededSuffices}
 
 -- ---- from one width to the next
 
@@ -58,37 +61,54 @@ small-choose B d c e = omega arith
 pub all-widths : (B k d s : ℕ) → d ≡ widest k → upTo s ≡ upTo (sizeTo B d) → upTo s ≡ upTo (storeSize B k)
 all-widths B k d s e f = f ∙ ap (λ (x : ℕ). upTo (sizeTo B x)) e
 
--- ---- the refusal, as the code has it
+-- ---- whether a store suffices, as the code has it
 
-module _ (B k a w : ℕ) (is : w ≡ upTo (storeSize B k)) where
-  pub too-large : 2 ^ 32 < w → 6 ≡ storeRefusal B k a
-  unfolding storeRefusal
-  too-large h = simp (lt-leb (storeSize B k) (2 ^ 32) (omega arith))
+module _ (B k w : ℕ) (is : w ≡ upTo (storeSize B k)) where
+  large : 2 ^ 32 < w → leb (storeSize B k) (2 ^ 32) ≡ false
+  large h = lt-leb (storeSize B k) (2 ^ 32) (omega arith)
 
-  module _ (within : w ≤ 2 ^ 32) where
-    fits : storeSize B k ≤ 2 ^ 32
-    fits = omega arith
+  small : w ≤ 2 ^ 32 → leb (storeSize B k) (2 ^ 32) ≡ true
+  small h = le-leb (storeSize B k) (2 ^ 32) (omega arith)
 
-    exact : w ≡ storeSize B k
-    exact = omega arith
+  exact : w ≤ 2 ^ 32 → w ≡ storeSize B k
+  exact h = omega arith
 
-    pub too-short : a < w → 6 ≡ storeRefusal B k a
-    unfolding storeRefusal
-    too-short h = simp (le-leb (storeSize B k) (2 ^ 32) fits, lt-leb (storeSize B k) a (omega (arith, exact)))
+  pub too-large : (a : ℕ) → 2 ^ 32 < w → false ≡ storeSuffices B k a
+  unfolding storeSuffices
+  too-large a h = simp (large h)
 
-    pub suffices : w ≤ a → 0 ≡ storeRefusal B k a
-    unfolding storeRefusal
-    suffices h = simp (le-leb (storeSize B k) (2 ^ 32) fits, le-leb (storeSize B k) a (omega (arith, exact)))
+  pub by-length : (a : ℕ) → w ≤ 2 ^ 32 → leb w a ≡ storeSuffices B k a
+  unfolding storeSuffices
+  by-length a h = simp (small h, exact h)
 
--- ---- what a store that is not refused has
+  module _ (block : validSize B ≡ true) (width : validWidth k ≡ true) (chosen : k ≤ B) where
+    pub none-needed : 2 ^ 32 < w → 0 ≡ storeNeeded B k
+    unfolding storeNeeded
+    none-needed h = simp (block, width, le-leb k B chosen, large h)
 
-none-refused : (x y : Bool) → _≡_ {A = ℕ} (cond x (cond y 0 6) 6) 0 → (x ≡ true) × (y ≡ true)
-none-refused true true e = (refl, refl)
-none-refused true false e = absurd (omega arith)
-none-refused false y e = absurd (omega arith)
+    pub all-needed : w ≤ 2 ^ 32 → w ≡ storeNeeded B k
+    unfolding storeNeeded
+    all-needed h = simp (block, width, le-leb k B chosen, small h, exact h)
 
-pub store-suffices : StoreSuffices
-unfolding storeRefusal
-store-suffices B k a e =
-    let w = none-refused (leb (storeSize B k) (2 ^ 32)) (leb (storeSize B k) a) e in
-    record { few = leb-true (storeSize B k) (2 ^ 32) (w .0); room = leb-true (storeSize B k) a (w .1) }
+-- ---- what a store that suffices has
+
+pub suffices-roomy : (B k a : ℕ) → SufficesRoomy B k a
+unfolding storeSuffices
+suffices-roomy B k a = record {
+  roomy = λ e. let p = both (leb (storeSize B k) (2 ^ 32)) (leb (storeSize B k) a) e in
+      record { few = leb-true (storeSize B k) (2 ^ 32) (p .0); room = leb-true (storeSize B k) a (p .1) };
+  suffices = λ r. simp (le-leb (storeSize B k) (2 ^ 32) (r .few), le-leb (storeSize B k) a (r .room));
+}
+
+-- ---- how long it must be
+
+pub needed-suffices : NeededSuffices
+unfolding storeSuffices storeNeeded
+needed-suffices B k a block width chosen = by-sum (leb (storeSize B k) (2 ^ 32)) refl
+  where
+    some : 1 ≤ storeSize B k
+    some = size-some B (widest k) (omega arith) (omega (arith, valid-facts B block))
+
+    by-sum : (t : Bool) → leb (storeSize B k) (2 ^ 32) ≡ t → storeSuffices B k a ≡ (leb 1 (storeNeeded B k) && leb (storeNeeded B k) a)
+    by-sum true e = simp (block, width, le-leb k B chosen, e, le-leb 1 (storeSize B k) some)
+    by-sum false e = simp (block, width, le-leb k B chosen, e)

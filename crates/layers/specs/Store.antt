@@ -1,11 +1,13 @@
 -- The store of the layered search: for each subset of 1 to max(1, k − 1) bits the number of blocks with all its bits set, by size, then in lexicographic order.
 use mathlib.Core.Path.{_≡_}
 use Prim.Native.Nat.{ℕ, zero, suc, _+_, _-_, _^_, _≤_, _<_, max}
-use mathlib.Core.Bool.{cond}
+use mathlib.Core.Bool.{Bool, true, false, cond, _&&_}
 use mathlib.Core.List.{List, [], _++_, map}
 use lib.Dec.{leb}
 use lib.ListN.{length, getD, take}
+use Rattle.counting.specs.Block.{validSize}
 use Rattle.counting.specs.Sample.{allSet}
+use Rattle.subsets.specs.Bits.{validWidth}
 use Rattle.subsets.specs.Subsets.{Subset, subsets}
 use Rattle.subsets.specs.Choose.{choose}
 use Rattle.subsets.specs.Rank.{rankOf}
@@ -35,18 +37,28 @@ storeSize B k = sizeTo B (widest k)
 abbrev pub offset : ℕ → ℕ → ℕ
 offset B d = sizeTo B (d - 1)
 
--- 6: the sum is above 2^32, or the store, of a entries, is shorter; 0: neither
-unfoldable pub storeRefusal : ℕ → ℕ → ℕ → ℕ
-storeRefusal B k a = cond (leb (storeSize B k) (2 ^ 32)) (cond (leb (storeSize B k) a) 0 6) 6
+-- whether a store of a entries is long enough, and the sum at most 2^32: then a search is by layers
+unfoldable pub storeSuffices : ℕ → ℕ → ℕ → Bool
+storeSuffices B k a = cond (leb (storeSize B k) (2 ^ 32)) (leb (storeSize B k) a) false
 
 -- what a store then has: room, and places below 2^32
 pub record Roomy (B k : ℕ) (a : ℕ) : Type 0 where
   pub few : storeSize B k ≤ 2 ^ 32
   pub room : storeSize B k ≤ a
 
--- Theorem: so where it is not refused.
-abbrev pub StoreSuffices : Type 0
-StoreSuffices = (B k a : ℕ) → storeRefusal B k a ≡ 0 → Roomy B k a
+-- Theorem: so just where it suffices.
+pub record SufficesRoomy (B k a : ℕ) : Type 0 where
+  pub roomy : storeSuffices B k a ≡ true → Roomy B k a
+  pub suffices : Roomy B k a → storeSuffices B k a ≡ true
+
+-- how many entries a store must have for a search by layers; 0 where no store makes it one: B is no block size, k no width in it, or the sum above 2^32
+unfoldable pub storeNeeded : ℕ → ℕ → ℕ
+storeNeeded B k = cond (validSize B && (validWidth k && (leb k B && leb (storeSize B k) (2 ^ 32)))) (storeSize B k) 0
+
+-- Theorem: for a width in a block, a store suffices just where it has as many, and these are not 0.
+abbrev pub NeededSuffices : Type 0
+NeededSuffices =
+    (B k a : ℕ) → validSize B ≡ true → validWidth k ≡ true → k ≤ B → storeSuffices B k a ≡ (leb 1 (storeNeeded B k) && leb (storeNeeded B k) a)
 
 -- the store begins with the counts of the subsets of 1 to m bits
 abbrev pub HoldsTo : (ℕ → ℕ → ℕ) → ℕ → ℕ → ℕ → List ℕ → Type 0

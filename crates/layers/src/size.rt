@@ -1,9 +1,11 @@
 // How many entries the store must have: compared exactly up to 2^32.
+use counting::block::valid_block_size;
+use subsets::bits::valid_width;
 use subsets::choose::choose_up_to;
 ghost use mathlib.Core.Path.{_≡_};
 ghost use Prim.Native.Nat.{_≤_, _<_};
 ghost use Rattle.subsets.specs.Choose.{upTo};
-ghost use Rattle.layers.specs.Store.{widest, storeSize, storeRefusal};
+ghost use Rattle.layers.specs.Store.{widest, storeSize, storeSuffices, storeNeeded};
 
 // The most bits of a subset that is kept.
 pub fn widest(k: usize) -> usize
@@ -27,17 +29,31 @@ pub fn store_size(block_size: usize, k: usize) -> usize
     if size > 4294967296 { 4294967297 } else { size }
 }
 
-// 6 where the size is above 2^32 or the store, of a entries, is shorter; else 0.
-pub fn store_refusal(block_size: usize, k: usize, a: usize) -> u32
+// Whether a store of a entries is long enough, and its size at most 2^32.
+pub fn store_suffices(block_size: usize, k: usize, a: usize) -> bool
     requires { ⌜ («block_size» < 4294967296) × (k ≤ 20) ⌝ }
-    ensures { λ r. ⌜ r ≡ storeRefusal «block_size» k a ⌝ }
+    ensures { λ r. ⌜ r ≡ storeSuffices «block_size» k a ⌝ }
 {
-    let need = store_size(block_size, k);
-    if need > 4294967296 {
-        return 6;
+    let size = store_size(block_size, k);
+    if size > 4294967296 {
+        return false;
     }
-    if a < need {
-        return 6;
+    size <= a
+}
+
+// How many entries a store must have for a search by layers; 0 where no store makes it one.
+pub fn store_needed(block_size: usize, k: usize) -> usize
+    ensures { λ r. ⌜ r ≡ storeNeeded «block_size» k ⌝ }
+{
+    if !valid_block_size(block_size) {
+        return 0;
     }
-    0
+    if !valid_width(k) {
+        return 0;
+    }
+    if k > block_size {
+        return 0;
+    }
+    let size = store_size(block_size, k);
+    if size > 4294967296 { 0 } else { size }
 }

@@ -4,14 +4,16 @@ ghost use Prim.Native.Nat.{_^_, _≤_, _<_};
 ghost use mathlib.Core.List.{_++_};
 ghost use lib.ListN.{length, getD, take, drop};
 ghost use lib.Ieee.{lt};
-ghost use Rattle.scoring.specs.Halves.{part};
+ghost use Rattle.scoring.specs.Halves.{halfPower, part};
 ghost use Rattle.scoring.specs.Score as Score;
 ghost use Rattle.ranking.specs.Order.{orderOf, BinsBelow};
 ghost use Rattle.ranking.specs.Peak.{better};
 ghost use Rattle.counting.specs.Sample.{total};
 ghost use Rattle.ranking.specs.Ranking.{Roots, scoreOf, asRanking, asPeak};
 use crate::order::order_bins;
+use scoring::halves::half_power;
 use scoring::halves::share;
+use scoring::halves::share_by;
 use scoring::score::absolute;
 use scoring::score::deviation;
 use scoring::score::z_over;
@@ -45,12 +47,12 @@ fn root_at(roots: &[f64], n: u32, i: u32, k: usize) -> f64
     deviation(n, share(i, k))
 }
 
-// |z| at division i, of c counts in its bins.
-fn size_at(roots: &[f64], n: u32, c: u32, i: u32, k: usize) -> f64
-    requires { ⌜ (1 ≤ i) × (k ≤ 20) × Roots n k (now roots) ⌝ }
+// |z| at division i, of c counts in its bins, where half is 2 ^ -k.
+fn size_at(roots: &[f64], n: u32, c: u32, i: u32, k: usize, half: f64) -> f64
+    requires { ⌜ (1 ≤ i) × (k ≤ 20) × (half ≡ halfPower k) × Roots n k (now roots) ⌝ }
     ensures { λ r. ⌜ r ≡ Score.abs (Score.zScore n c (part i k)) ⌝ }
 {
-    absolute(z_over(n, c, share(i, k), root_at(roots, n, i, k)))
+    absolute(z_over(n, c, share_by(i, half, k), root_at(roots, n, i, k)))
 }
 
 // The better of best and division i, of the size z: the earlier one unless z is strictly greater.
@@ -77,6 +79,7 @@ fn divide(bins: &[u32], order: &[u32], n: u32, k: usize, roots: &[f64]) -> Ranki
     requires { ⌜ (k ≤ 20) × (length (now bins) ≡ 2 ^ k) × (total (now bins) ≡ n) × (now order ≡ orderOf (now bins)) × Roots n k (now roots) ⌝ }
     ensures { λ r. ⌜ r ≡ scoreOf n k (now (bins .entry)) ⌝ }
 {
+    let half = half_power(k);
     let mut best = Ranking {
         division: 1,
         z: 0.0,
@@ -89,7 +92,7 @@ fn divide(bins: &[u32], order: &[u32], n: u32, k: usize, roots: &[f64]) -> Ranki
         best = better(
             best,
             division as u32,
-            size_at(roots, n, c, division as u32, k),
+            size_at(roots, n, c, division as u32, k, half),
         );
         i = division;
     }

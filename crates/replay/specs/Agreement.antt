@@ -1,12 +1,11 @@
 -- Whether two searches found the same.
 use Prim.Native.Nat.{ℕ, zero, suc, min}
-use mathlib.Core.Bool.{Bool, true, false, cond, not, _&&_}
+use mathlib.Core.Bool.{Bool, true, false, not, _&&_}
 use mathlib.Core.List.{List}
 use lib.Dec.{eqb}
 use lib.Ieee.{eq}
 use lib.ListN.{getD}
 use Rattle.searching.specs.declared.finding.Finding.{Finding}
-use Rattle.searching.specs.declared.finding.Searched.{Searched}
 
 -- whether the first m entries are the same
 unfoldable pub sameTo : List ℕ → List ℕ → ℕ → Bool
@@ -23,7 +22,3 @@ unfoldable pub sameFinding : Finding → Finding → Bool
 sameFinding a b =
     eqb (a .«block_size») (b .«block_size»)
     && (eqb (a .width) (b .width) && (eqb (a .division) (b .division) && (sameTo (a .bits) (b .bits) (min (a .width) 20) && (alike (a .«low_first») (b .«low_first») && eq (a .z) (b .z)))))
-
--- whether the two searches' findings are the same; true where the layered one did not run
-unfoldable pub agreeOf : Searched → Searched → Bool
-agreeOf layered direct = cond (eqb (layered .refusal) 0) (sameFinding (layered .finding) (direct .finding)) true

@@ -8,7 +8,7 @@ use lib.ListN.{length}
 use Rattle.counting.specs.Block.{validSize}
 use Rattle.counting.specs.Recorded.{started, fedAll}
 use Rattle.counting.specs.Recording.{recording, refusalsFrom, blocksIn, recordedBit}
-use Rattle.layers.specs.Store.{storeRefusal}
+use Rattle.layers.specs.Store.{storeSuffices}
 use Rattle.searching.specs.Claim.{BestOf}
 use Rattle.searching.specs.Finding.{winnerOf, findingOf, noFinding}
 use Rattle.searching.specs.Refusal.{orElse, widthRefusal, bufferRefusal}
@@ -18,8 +18,8 @@ use Rattle.counting.specs.Sample.{total}
 use Rattle.replay.specs.Pieces.{cut, refusedIn}
 use Rattle.replay.specs.declared.replay.Replayed.{Replayed}
 
--- 24: the lengths do not add up to the recording's; then start's 1, and the searches' 2, 3, 7. A fresh sampler is never refused 4, a feed that is refused
--- 5 is counted, and a store that does not suffice (6) leaves the layered search out.
+-- 24: the lengths do not add up to the recording's; then start's 1, and the search's 2, 3, 7. A fresh sampler is never refused 4, and a feed that is refused
+-- 5 is counted.
 unfoldable pub replayRefusal : ℕ → ℕ → List ℕ → ℕ → ℕ → ℕ → ℕ
 replayRefusal B bytes lengths k bins order =
     cond (eqb (total lengths) bytes) (cond (validSize B) (orElse (widthRefusal B k) (bufferRefusal k bins order)) 1) 24
@@ -39,7 +39,7 @@ replayedOf zero B low words pieces k a =
     record {
       refusal = 0;
       refused = refusedIn (refusalsFrom B words [] pieces);
-      layered = eqb (storeRefusal B k a) 0;
+      layered = storeSuffices B k a;
       agree = true;
       finding = heldFinding B low (recording B words pieces) k;
     }
@@ -62,10 +62,10 @@ pub record ReplayOf (r B : ℕ) (low : Bool) (pieces : List (List ℕ)) (k : ℕ
   pub ordered :
       let held = recording B (length ws) pieces in
       order′ ≡ orderAfter r (recordedBit B low held) (blocksIn B held) B k order
-  -- where the layered search ran, the all-set counts of the smaller subsets, and past them as lent; all as lent where it did not
+  -- where it suffices, the all-set counts of the smaller subsets, and past them as lent; all as lent where it does not, and where refused
   pub stored :
       let held = recording B (length ws) pieces in
-      store′ ≡ storeAfter (orElse r (storeRefusal B k (length store))) (recordedBit B low held) (blocksIn B held) B k store
+      store′ ≡ storeAfter r (storeSuffices B k (length store)) (recordedBit B low held) (blocksIn B held) B k store
   -- the claim's conclusion: what was found is the best of the recording
   pub best : r ≡ 0 → BestOf B low (recording B (length ws) pieces) k (answer .finding) bins′ order′
 

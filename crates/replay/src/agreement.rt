@@ -1,21 +1,8 @@
 // Whether two searches found the same.
 ghost use mathlib.Core.Path.{_≡_};
 ghost use Prim.Native.Nat.{_≤_, min};
-ghost use Rattle.replay.specs.Agreement.{sameTo, alike, sameFinding, agreeOf};
+ghost use Rattle.replay.specs.Agreement.{sameTo, alike, sameFinding};
 use searching::finding::Finding;
-use searching::finding::Searched;
-
-// Whether the findings of the two searches are the same; true where the layered one did not run.
-pub fn agreeing(layered: Searched, direct: Searched) -> bool
-    ensures { λ r. ⌜ r ≡ agreeOf layered direct ⌝ }
-{
-    if layered.refusal != 0 {
-        return true;
-    }
-    let a = layered.finding;
-    let b = direct.finding;
-    same_finding(a, b)
-}
 
 // Whether two findings are the same in every field, their bits up to the width: entries past it are not read.
 pub fn same_finding(a: Finding, b: Finding) -> bool

@@ -1,28 +1,21 @@
 // The replay of a recording, as a caller meets it.
 ghost use mathlib.Core.Path.{_≡_};
-ghost use lib.ListN.{length};
-ghost use Rattle.counting.specs.Sampling.{blocksOf};
-ghost use Rattle.searching.specs.Refusal.{searchRefusal};
-ghost use Rattle.searching.specs.Search.{LayeredSearch};
 ghost use Rattle.replay.specs.Replay.{refusedReplay, replayRefusal, Replay};
-use crate::agreement::agreeing;
+use crate::agreement::same_finding;
 use crate::pieces::adds_up;
 use crate::pieces::feed_pieces;
 use counting::block::valid_block_size;
-use counting::sampling::Sampler;
 use counting::sampling::blocks;
 use counting::sampling::start;
-use layers::size::store_refusal;
+use layers::size::store_suffices;
 use searching::finding::Finding;
-use searching::finding::Searched;
 use searching::finding::refused;
-use searching::search::brute_force;
-use searching::search::brute_force_threads;
+use searching::search::bottomup;
 use searching::search::buffer_refusal;
 use searching::search::width_refusal;
 
-// What a replay answers: a refusal, 0 where there is none, how many feeds were refused, whether the layered search ran, whether the two findings are the
-// same (true where only the direct search ran), and the finding.
+// What a replay answers: a refusal, 0 where there is none, how many feeds were refused, whether the store sufficed for a search by layers, whether the
+// findings of the two searches are the same, and the finding.
 pub struct Replayed {
     pub refusal: u32,
     pub refused: usize,
@@ -31,7 +24,7 @@ pub struct Replayed {
     pub finding: Finding,
 }
 
-// Feeds a recording in pieces of the given lengths to a fresh sampler of the words in the given bit order, and searches it: by layers where the store suffices, and directly.
+// Feeds a recording in pieces of the given lengths to a fresh sampler of the words in the given bit order, and searches it twice: with the store, and with none.
 // Refusals 24 (the lengths do not add up to the recording's), 1, 2, 3, 7, all before anything is written.
 pub fn replay(
     block_size: usize,
@@ -57,40 +50,23 @@ pub fn replay(
     if refusal != 0 {
         return refused_replay(refusal);
     }
+    let layered = store_suffices(block_size, k, store.len());
     let started = start(block_size, low_first, words);
     let taken = feed_pieces(started.sampler, words, recording, lengths);
-    let layered = search_layered(taken.sampler, words, k, store, bins, order);
     let n = blocks(taken.sampler);
-    let direct = brute_force_threads(taken.sampler, words, 0, n, k, bins, order);
-    let agree = agreeing(layered, direct);
+    let stored = bottomup(taken.sampler, words, 0, n, k, store, bins, order);
+    let mut none: [u32; 0] = [];
+    let direct = bottomup(taken.sampler, words, 0, n, k, &mut none, bins, order);
+    let first = stored.finding;
     let finding = direct.finding;
+    let agree = same_finding(first, finding);
     Replayed {
         refusal: 0,
         refused: taken.refused,
-        layered: layered.refusal == 0,
+        layered,
         agree,
         finding,
     }
-}
-
-// The layered search of all blocks where the store suffices. Else it is not made, and the answer is what it would refuse with, 6.
-fn search_layered(
-    sampler: Sampler,
-    words: &[u64],
-    k: usize,
-    store: &mut [u32],
-    bins: &mut [u32],
-    order: &mut [u32],
-) -> Searched
-    requires { ⌜ searchRefusal sampler (length (now words)) 0 (blocksOf sampler) k ≡ 0 ⌝ }
-    ensures { λ r. ⌜ LayeredSearch sampler (now (words .entry)) 0 (blocksOf sampler) k (now (store .entry)) (now (bins .entry)) (now (order .entry)) r (now (store .exit)) (now (bins .exit)) (now (order .exit)) ⌝ }
-{
-    let short = store_refusal(sampler.block_size, k, store.len());
-    if short != 0 {
-        return refused(short);
-    }
-    let n = blocks(sampler);
-    brute_force(sampler, words, 0, n, k, store, bins, order)
 }
 
 // 24, 1, 2, 3, 7, or 0 where a recording of `recording` bytes can be replayed.

@@ -1,9 +1,8 @@
 // Cases of replays: B, the bit order, 1 where the low bit comes first, k, how many words, bins, entries of the order and of the store are lent; the
 // number of the recording's bytes, and each; the number of lengths, and each.
-// Answer: a line with the refusal, the number of refused feeds, whether the layered search ran, whether the findings agree, and the finding: B, width, 20
-// bits, division, the pattern of z, the bit order; a line with all words, one with the whole bin buffer and one with the whole order buffer afterwards; and
-// one with how many entries of the store, past the counts that the layered search leaves there, are no longer as lent, and the sum of these counts, each times
-// its place.
+// Answer: a line with the refusal, the number of refused feeds, whether the store suffices, whether the findings agree, and the finding: B, width, 20 bits,
+// division, the pattern of z, the bit order; a line with all words, one with the whole bin buffer and one with the whole order buffer afterwards; and one with
+// how many entries of the store, past the counts that are left there where it suffices, are no longer as lent, and the sum of these counts, each times its place.
 ghost use mathlib.Core.Path.{_≡_};
 ghost use lib.ListN.{length};
 use cases::entries::changed;
@@ -16,7 +15,7 @@ use cases::printing::print;
 use cases::reading::at_most;
 use cases::reading::bytes;
 use cases::reading::number;
-use layers::size::store_size;
+use layers::size::store_needed;
 use replay::replay::Replayed;
 use replay::replay::replay;
 
@@ -215,16 +214,10 @@ fn store() -> [u32; 8448]
     [99; 8448]
 }
 
-// How many counts the layered search leaves in the store: none where it did not run.
+// How many counts are left in the store: none where it does not suffice.
 fn kept_entries(layered: bool, block_size: usize, k: usize) -> usize {
     if !layered {
         return 0;
     }
-    if block_size > 4096 {
-        return 0;
-    }
-    if k > 20 {
-        return 0;
-    }
-    store_size(block_size, k)
+    store_needed(block_size, k)
 }

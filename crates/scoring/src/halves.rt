@@ -40,5 +40,13 @@ pub fn share(i: u32, k: usize) -> f64
     requires { ⌜ k ≤ 20 ⌝ }
     ensures { λ r. ⌜ r ≡ part i k ⌝ }
 {
-    i as f64 * half_power(k)
+    share_by(i, half_power(k), k)
+}
+
+// The same from 2 ^ -k, for a loop over i: each look at the table writes it anew.
+pub fn share_by(i: u32, half: f64, k: usize) -> f64
+    requires { ⌜ (k ≤ 20) × (half ≡ halfPower k) ⌝ }
+    ensures { λ r. ⌜ r ≡ part i k ⌝ }
+{
+    i as f64 * half
 }

@@ -22,7 +22,7 @@ use Rattle.counting.specs.declared.sampling.Started.{Started}
 use Rattle.counting.specs.declared.sampling.Fed.{Fed}
 use Rattle.counting.proofs.Counts.{same-counts}
 use Rattle.counting.proofs.Recorded.{all-recorded, fedAll-snoc, answers-snoc}
-use Rattle.layers.specs.Store.{widest, storeSize, storeRefusal}
+use Rattle.layers.specs.Store.{widest, storeSize, storeSuffices}
 use Rattle.scoring.proofs.Less.{equal}
 use Rattle.ranking.specs.Order.{orderOf}
 use Rattle.ranking.specs.Ranking.{scoreOf}
@@ -33,13 +33,13 @@ use Rattle.subsets.specs.Subsets.{Subset, lexLt, padded}
 use Rattle.subsets.proofs.Filling.{padded-front}
 use Rattle.subsets.proofs.Listing.{bits-below}
 use Rattle.searching.specs.Finding.{winnerOf, findingOf, zOf}
-use Rattle.searching.specs.Refusal.{orElse, widthRefusal, bufferRefusal, searchRefusal, directRefusal, layeredRefusal}
-use Rattle.searching.specs.Search.{StretchSearch, DirectSearch, LayeredSearch, storeAfter}
-use Rattle.searching.specs.Claim.{Acquisition, fresh, next, Best, BestIn, SearchClaim, DirectRoom, LayeredRoom, StoredIn, Same, Claims}
+use Rattle.searching.specs.Refusal.{orElse, widthRefusal, bufferRefusal, searchRefusal, bottomupRefusal}
+use Rattle.searching.specs.Search.{StretchSearch, BottomupSearch, storeAfter}
+use Rattle.searching.specs.Claim.{Acquisition, fresh, next, Best, BestIn, SearchClaim, SearchRoom, Same, Claims}
 use Rattle.searching.specs.declared.finding.Finding.{Finding}
 use Rattle.searching.specs.declared.finding.Searched.{Searched}
 use Rattle.searching.proofs.Filled.{replaced-first, length-counts, length-order}
-use Rattle.searching.proofs.Refusing.{SearchFree, direct-free, layered-free, said-is}
+use Rattle.searching.proofs.Refusing.{SearchFree, bottomup-free, said-is}
 use Rattle.searching.proofs.Stored.{store-agree}
 use Rattle.searching.proofs.Walking.{winner-optimal}
 
@@ -196,91 +196,63 @@ module _ (B : ℕ) (low : Bool) (words : ℕ) (held ws : List ℕ) (ok : validSi
       (rw (S .counted, S .ordered) (best-of (f .ordered .held) (f .width .chosen) bins order))
   search-best (suc r) bins order answer bins′ order′ S free z = absurd (omega (arith, said-is (suc r) low bit n B k answer (S .answered)))
 
-  -- what holds of a search with the refusal r
-  search-claim : (r : ℕ) (Room : Type 0) (bins order : List ℕ) (answer : Searched) (bins′ order′ : List ℕ) → StretchSearch r s ws first end k bins order answer bins′ order′
-      → ((end < first) ⊎ (blocksIn B held < end) → r ≡ 18) → (first ≤ end → end ≤ blocksIn B held → Room → r ≡ 0)
-      → (r ≡ 0 → SearchFree s (length ws) first end k) → SearchClaim B low held first end k Room answer bins′ order′
-  search-claim r Room bins order answer bins′ order′ S out is free =
-      let said : answer .refusal ≡ r = said-is r low bit n B k answer (S .answered) in
+  out-is : (a b : ℕ) → (end < first) ⊎ (blocksIn B held < end) → bottomupRefusal s (length ws) first end k a b ≡ 18
+  unfolding bottomupRefusal searchRefusal
+  out-is a b o = outside-is (bufferRefusal k a b) o
+
+  free-is : (bins order : List ℕ) → first ≤ end → end ≤ blocksIn B held → SearchRoom B k bins order
+      → bottomupRefusal s (length ws) first end k (length bins) (length order) ≡ 0
+  unfolding bottomupRefusal searchRefusal
+  free-is bins order fe has (some, width, chosen, p, q) = simp (usable-is, stretch-is fe has, width-is some width chosen, buffer-is (length bins) (length order) p q)
+
+  -- the counts left in a store that suffices are the recording's
+  stored-in : (r : ℕ) (suffices : Bool) (store store′ : List ℕ) → store′ ≡ storeAfter r suffices bit n B k store → r ≡ 0 → end ≤ blocksIn B held
+      → store′ ≡ storeAfter 0 suffices told n B k store
+  stored-in zero true store store′ S z has = S ∙ ap (λ (l : List ℕ). l ++ drop (storeSize B k) store) (store-agree n B bit told (agrees has) (widest k))
+  stored-in zero false store store′ S z has = S
+  stored-in (suc r) suffices store store′ S z has = absurd (omega arith)
+
+  search-claim : (store bins order : List ℕ) (r : Searched) (store′ bins′ order′ : List ℕ)
+      → BottomupSearch s ws first end k store bins order r store′ bins′ order′ → SearchClaim B low held first end k store bins order r store′ bins′ order′
+  search-claim store bins order r store′ bins′ order′ S =
+      let q = bottomupRefusal s (length ws) first end k (length bins) (length order) in
+      let said : r .refusal ≡ q = said-is q low bit n B k r (S .search .answered) in
+      let free = bottomup-free s (length ws) first end k (length bins) (length order) in
       record {
-        outside = λ o. said ∙ out o;
-        succeeds = λ order has room. said ∙ is order has room;
-        best = λ z. search-best r bins order answer bins′ order′ S free z;
+        outside = λ o. said ∙ out-is (length bins) (length order) o;
+        succeeds = λ fe has room. said ∙ free-is bins order fe has room;
+        best = λ z. search-best q bins order r bins′ order′ (S .search) (λ e. free e .search) z;
+        stored = λ z.
+            let none : q ≡ 0 = sym said ∙ z in
+            stored-in q (storeSuffices B k (length store)) store store′ (S .stored) none (free none .search .ordered .held);
       }
 
-  direct-out : (a b : ℕ) → (end < first) ⊎ (blocksIn B held < end) → directRefusal s (length ws) first end k a b ≡ 18
-  unfolding directRefusal searchRefusal
-  direct-out a b o = outside-is (bufferRefusal k a b) o
-
-  direct-is : (bins order : List ℕ) → first ≤ end → end ≤ blocksIn B held → DirectRoom B k bins order
-      → directRefusal s (length ws) first end k (length bins) (length order) ≡ 0
-  unfolding directRefusal searchRefusal
-  direct-is bins order fe has (some, width, chosen, p, q) = simp (usable-is, stretch-is fe has, width-is some width chosen, buffer-is (length bins) (length order) p q)
-
-  direct-claim : (bins order : List ℕ) (r : Searched) (bins′ order′ : List ℕ)
-      → DirectSearch s ws first end k bins order r bins′ order′ → SearchClaim B low held first end k (DirectRoom B k bins order) r bins′ order′
-  direct-claim bins order r bins′ order′ S =
-      search-claim _ (DirectRoom B k bins order) bins order r bins′ order′ S (direct-out (length bins) (length order)) (direct-is bins order)
-      (λ z. direct-free s (length ws) first end k (length bins) (length order) z .search)
-
-  store-is : (a : ℕ) → storeSize B k ≤ 2 ^ 32 → storeSize B k ≤ a → storeRefusal B k a ≡ 0
-  unfolding storeRefusal
-  store-is a p q = simp (le-leb _ _ p, le-leb _ _ q)
-
-  layered-out : (c a b : ℕ) → (end < first) ⊎ (blocksIn B held < end) → layeredRefusal s (length ws) first end k c a b ≡ 18
-  unfolding layeredRefusal searchRefusal
-  layered-out c a b o = outside-is (orElse (storeRefusal B k c) (bufferRefusal k a b)) o
-
-  layered-is : (store bins order : List ℕ) → first ≤ end → end ≤ blocksIn B held → LayeredRoom B k store bins order
-      → layeredRefusal s (length ws) first end k (length store) (length bins) (length order) ≡ 0
-  unfolding layeredRefusal searchRefusal
-  layered-is store bins order fe has ((some, width, chosen, p, q), w, x) =
-      simp (usable-is, stretch-is fe has, width-is some width chosen, store-is (length store) w x, buffer-is (length bins) (length order) p q)
-
-  -- where it was not refused, the counts left in the store are the recording's
-  stored-in : (r : ℕ) (store store′ : List ℕ) → store′ ≡ storeAfter r bit n B k store → r ≡ 0 → end ≤ blocksIn B held → StoredIn B low held first end k store store′
-  stored-in r store store′ S z has =
-      S ∙ ap (λ (q : ℕ). storeAfter q bit n B k store) z ∙ ap (λ (l : List ℕ). l ++ drop (storeSize B k) store) (store-agree n B bit told (agrees has) (widest k))
-
-  layered-claim : (store bins order : List ℕ) (r : Searched) (store′ bins′ order′ : List ℕ)
-      → LayeredSearch s ws first end k store bins order r store′ bins′ order′
-      → SearchClaim B low held first end k (LayeredRoom B k store bins order) r bins′ order′ × (r .refusal ≡ 0 → StoredIn B low held first end k store store′)
-  layered-claim store bins order r store′ bins′ order′ S =
-      let q = layeredRefusal s (length ws) first end k (length store) (length bins) (length order) in
-      let free = layered-free s (length ws) first end k (length store) (length bins) (length order) in (
-        search-claim q (LayeredRoom B k store bins order) bins order r bins′ order′ (S .search)
-            (layered-out (length store) (length bins) (length order)) (layered-is store bins order) (λ z. free z .search),
-        λ z.
-            let none : q ≡ 0 = sym (said-is q low bit n B k r (S .search .answered)) ∙ z in
-            stored-in q store store′ (S .stored) none (free none .search .ordered .held),
-      )
-
   -- two searches that were not refused
-  search-same : (q q′ : ℕ) (bins order : List ℕ) (r : Searched) (bins′ order′ binsₗ orderₗ : List ℕ) (rₗ : Searched) (binsₗ′ orderₗ′ : List ℕ)
-      → StretchSearch q s ws first end k bins order r bins′ order′ → StretchSearch q′ s ws first end k binsₗ orderₗ rₗ binsₗ′ orderₗ′
-      → k ≤ B → r .refusal ≡ 0 → rₗ .refusal ≡ 0 → Same k r bins′ order′ rₗ binsₗ′ orderₗ′
-  search-same zero zero bins order r bins′ order′ binsₗ orderₗ rₗ binsₗ′ orderₗ′ S L chosen z y =
+  search-same : (q q′ : ℕ) (bins order : List ℕ) (r : Searched) (bins′ order′ bins₂ order₂ : List ℕ) (r₂ : Searched) (bins₂′ order₂′ : List ℕ)
+      → StretchSearch q s ws first end k bins order r bins′ order′ → StretchSearch q′ s ws first end k bins₂ order₂ r₂ bins₂′ order₂′
+      → k ≤ B → r .refusal ≡ 0 → r₂ .refusal ≡ 0 → Same k r bins′ order′ r₂ bins₂′ order₂′
+  search-same zero zero bins order r bins′ order′ bins₂ order₂ r₂ bins₂′ order₂′ S S₂ chosen z y =
       let W = winnerOf bit n B k in
       let size = ap (λ (m : ℕ). 2 ^ m) (winner-optimal bit n B k chosen .subset .size) in
       let counts = countsOf bit n W in
       record {
-        findings = ap (λ (a : Searched). a .finding) (S .answered ∙ sym (L .answered));
+        findings = ap (λ (a : Searched). a .finding) (S .answered ∙ sym (S₂ .answered));
         counts = ap (take (2 ^ k)) (S .counted) ∙ replaced-first (2 ^ k) counts bins (length-counts bit n W ∙ size)
-            ∙ sym (ap (take (2 ^ k)) (L .counted) ∙ replaced-first (2 ^ k) counts binsₗ (length-counts bit n W ∙ size));
+            ∙ sym (ap (take (2 ^ k)) (S₂ .counted) ∙ replaced-first (2 ^ k) counts bins₂ (length-counts bit n W ∙ size));
         orders = ap (take (2 ^ k)) (S .ordered) ∙ replaced-first (2 ^ k) (orderOf counts) order (length-order bit n W ∙ size)
-            ∙ sym (ap (take (2 ^ k)) (L .ordered) ∙ replaced-first (2 ^ k) (orderOf counts) orderₗ (length-order bit n W ∙ size));
+            ∙ sym (ap (take (2 ^ k)) (S₂ .ordered) ∙ replaced-first (2 ^ k) (orderOf counts) order₂ (length-order bit n W ∙ size));
       }
-  search-same (suc q) q′ bins order r bins′ order′ binsₗ orderₗ rₗ binsₗ′ orderₗ′ S L chosen z y = absurd (omega (arith, said-is (suc q) low bit n B k r (S .answered)))
-  search-same zero (suc q′) bins order r bins′ order′ binsₗ orderₗ rₗ binsₗ′ orderₗ′ S L chosen z y = absurd (omega (arith, said-is (suc q′) low bit n B k rₗ (L .answered)))
+  search-same (suc q) q′ bins order r bins′ order′ bins₂ order₂ r₂ bins₂′ order₂′ S S₂ chosen z y = absurd (omega (arith, said-is (suc q) low bit n B k r (S .answered)))
+  search-same zero (suc q′) bins order r bins′ order′ bins₂ order₂ r₂ bins₂′ order₂′ S S₂ chosen z y = absurd (omega (arith, said-is (suc q′) low bit n B k r₂ (S₂ .answered)))
 
-  both-same : (bins order : List ℕ) (r : Searched) (bins′ order′ : List ℕ) → DirectSearch s ws first end k bins order r bins′ order′
-      → (store binsₗ orderₗ : List ℕ) (rₗ : Searched) (store′ binsₗ′ orderₗ′ : List ℕ)
-      → LayeredSearch s ws first end k store binsₗ orderₗ rₗ store′ binsₗ′ orderₗ′
-      → r .refusal ≡ 0 → rₗ .refusal ≡ 0 → Same k r bins′ order′ rₗ binsₗ′ orderₗ′
-  both-same bins order r bins′ order′ S store binsₗ orderₗ rₗ store′ binsₗ′ orderₗ′ L z y =
-      let d = directRefusal s (length ws) first end k (length bins) (length order) in
-      search-same d _ bins order r bins′ order′ binsₗ orderₗ rₗ binsₗ′ orderₗ′ S (L .search)
-      (direct-free s (length ws) first end k (length bins) (length order) (sym (said-is d low bit n B k r (S .answered)) ∙ z) .search .width .chosen) z y
+  both-same : (store bins order : List ℕ) (r : Searched) (store′ bins′ order′ : List ℕ) → BottomupSearch s ws first end k store bins order r store′ bins′ order′
+      → (store₂ bins₂ order₂ : List ℕ) (r₂ : Searched) (store₂′ bins₂′ order₂′ : List ℕ)
+      → BottomupSearch s ws first end k store₂ bins₂ order₂ r₂ store₂′ bins₂′ order₂′
+      → r .refusal ≡ 0 → r₂ .refusal ≡ 0 → Same k r bins′ order′ r₂ bins₂′ order₂′
+  both-same store bins order r store′ bins′ order′ S store₂ bins₂ order₂ r₂ store₂′ bins₂′ order₂′ S₂ z y =
+      let q = bottomupRefusal s (length ws) first end k (length bins) (length order) in
+      search-same q _ bins order r bins′ order′ bins₂ order₂ r₂ bins₂′ order₂′ (S .search) (S₂ .search)
+      (bottomup-free s (length ws) first end k (length bins) (length order) (sym (said-is q low bit n B k r (S .search .answered)) ∙ z) .search .width .chosen) z y
 
 -- ---- every acquisition
 
@@ -299,14 +271,11 @@ claims B low ws pieces answers s ws′ acquired =
     let is = H .sampler in
     record {
       fed = S .said ∙ all-recorded B low ws (S .valid) pieces .answers;
-      direct = λ first end k bins order r bins′ order′ P.
-          direct-claim B low (length ws) held ws′ (S .valid) (H .lent) (H .within) (H .stored) first end k bins order r bins′ order′
-          (subst (λ (q : Sampler). DirectSearch q ws′ first end k bins order r bins′ order′) is P);
-      layered = λ first end k store bins order r store′ bins′ order′ P.
-          layered-claim B low (length ws) held ws′ (S .valid) (H .lent) (H .within) (H .stored) first end k store bins order r store′ bins′ order′
-          (subst (λ (q : Sampler). LayeredSearch q ws′ first end k store bins order r store′ bins′ order′) is P);
-      same = λ first end k bins order r bins′ order′ P store binsₗ orderₗ rₗ store′ binsₗ′ orderₗ′ L z y.
-          both-same B low (length ws) held ws′ (S .valid) (H .lent) (H .within) (H .stored) first end k bins order r bins′ order′
-          (subst (λ (q : Sampler). DirectSearch q ws′ first end k bins order r bins′ order′) is P) store binsₗ orderₗ rₗ store′ binsₗ′ orderₗ′
-          (subst (λ (q : Sampler). LayeredSearch q ws′ first end k store binsₗ orderₗ rₗ store′ binsₗ′ orderₗ′) is L) z y;
+      search = λ first end k store bins order r store′ bins′ order′ P.
+          search-claim B low (length ws) held ws′ (S .valid) (H .lent) (H .within) (H .stored) first end k store bins order r store′ bins′ order′
+          (subst (λ (q : Sampler). BottomupSearch q ws′ first end k store bins order r store′ bins′ order′) is P);
+      same = λ first end k store bins order r store′ bins′ order′ P store₂ bins₂ order₂ r₂ store₂′ bins₂′ order₂′ P₂ z y.
+          both-same B low (length ws) held ws′ (S .valid) (H .lent) (H .within) (H .stored) first end k store bins order r store′ bins′ order′
+          (subst (λ (q : Sampler). BottomupSearch q ws′ first end k store bins order r store′ bins′ order′) is P) store₂ bins₂ order₂ r₂ store₂′ bins₂′ order₂′
+          (subst (λ (q : Sampler). BottomupSearch q ws′ first end k store₂ bins₂ order₂ r₂ store₂′ bins₂′ order₂′) is P₂) z y;
     }

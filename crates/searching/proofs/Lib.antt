@@ -3,6 +3,7 @@ pub mod Filled
 pub mod Walking
 pub mod Refusing
 pub mod Stored
+pub mod AnyStore
 pub mod Claiming
 pub mod Stretches
 pub mod Reversing

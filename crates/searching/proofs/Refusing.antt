@@ -1,24 +1,23 @@
 -- The refusals of a search: what a refusal of 0 tells, and what is promised where there is one and where there is none.
 use mathlib.Core.Path.{_≡_, refl, ap, subst, _∙_}
 use mathlib.Core.Bool.{Bool, true, false, cond}
-use mathlib.Core.List.{List, _++_}
+use mathlib.Core.List.{List}
 use Prim.Native.Nat.{ℕ, zero, suc, _/_, _^_, _≤_, _<_}
 use native.Mathlib.Nat.{le-trans, min-le-left, min-le-right, div-mul-le-self, mul-comm}
 use native.Mathlib.Omega.{arith}
 use lib.Dec.{leb}
-use lib.ListN.{length, drop}
+use lib.ListN.{length}
 use borrow.Author.Tests.{leb-true}
 use Rattle.counting.specs.Sampling.{blocksOf, samplerRefusal}
 use Rattle.counting.specs.Stretch.{stretchOf, stretchRefusal, stretchBit, span}
 use Rattle.counting.specs.declared.sampling.Sampler.{Sampler}
 use Rattle.counting.specs.declared.stretch.Stretch.{Stretch}
 use Rattle.counting.proofs.Accepted.{Usable, usable, valid-facts, room-blocks}
-use Rattle.layers.specs.Store.{storeOf, storeSize, storeRefusal, Roomy}
-use Rattle.layers.proofs.Sizing.{store-suffices}
+use Rattle.layers.specs.Store.{storeSuffices}
 use Rattle.subsets.specs.Bits.{validWidth}
 use Rattle.subsets.proofs.Refusing.{width-bounds}
 use Rattle.searching.specs.Finding.{marked, refusedWith}
-use Rattle.searching.specs.Refusal.{orElse, widthRefusal, bufferRefusal, searchRefusal, directRefusal, layeredRefusal}
+use Rattle.searching.specs.Refusal.{orElse, widthRefusal, bufferRefusal, searchRefusal, bottomupRefusal}
 use Rattle.searching.specs.Pass.{Searchable, Won}
 use Rattle.searching.specs.Search.{Search, StretchSearch, answerOf, storeAfter}
 use Rattle.searching.specs.declared.finding.Finding.{Finding}
@@ -102,28 +101,15 @@ searchable s words first end k x is f =
       rows = (omega (arith, div-mul-le-self words B, mul-comm B (words / B)), (f .ordered .order, le-trans blocks (min-le-left _ _), le-trans blocks (min-le-right _ _)));
     })
 
-pub record DirectFree (s : Sampler) (words first end k bins order : ℕ) : Type 0 where
+pub record BottomupFree (s : Sampler) (words first end k bins order : ℕ) : Type 0 where
   pub search : SearchFree s words first end k
   pub room : (2 ^ k ≤ bins) × (2 ^ k ≤ order)
 
-pub direct-free : (s : Sampler) (words first end k bins order : ℕ) → directRefusal s words first end k bins order ≡ 0 → DirectFree s words first end k bins order
-unfolding directRefusal
-direct-free s words first end k bins order e =
+pub bottomup-free : (s : Sampler) (words first end k bins order : ℕ) → bottomupRefusal s words first end k bins order ≡ 0 → BottomupFree s words first end k bins order
+unfolding bottomupRefusal
+bottomup-free s words first end k bins order e =
     let p = neither (searchRefusal s words first end k) _ e in
     record { search = search-free s words first end k (p .0); room = buffer-free k bins order (p .1) }
-
-pub record LayeredFree (s : Sampler) (words first end k a bins order : ℕ) : Type 0 where
-  pub search : SearchFree s words first end k
-  pub store : Roomy (s .«block_size») k a
-  pub room : (2 ^ k ≤ bins) × (2 ^ k ≤ order)
-
-pub layered-free : (s : Sampler) (words first end k a bins order : ℕ) → layeredRefusal s words first end k a bins order ≡ 0
-    → LayeredFree s words first end k a bins order
-unfolding layeredRefusal
-layered-free s words first end k a bins order e =
-    let p = neither (searchRefusal s words first end k) _ e in
-    let q = neither (storeRefusal (s .«block_size») k a) _ (p .1) in
-    record { search = search-free s words first end k (p .0); store = store-suffices (s .«block_size») k a (q .0); room = buffer-free k bins order (q .1) }
 
 -- ---- the promise
 
@@ -150,13 +136,15 @@ search-found r s ws first end k x bins order f g bins′ order′ is e won mark 
 
 -- ---- and of the store
 
-pub store-refused : (r : ℕ) (bit : ℕ → ℕ → ℕ) (n B k : ℕ) (store : List ℕ) → (r ≡ 0 → ⊥) → store ≡ storeAfter r bit n B k store
-store-refused zero bit n B k store h = absurd (h refl)
-store-refused (suc r) bit n B k store h = refl
+pub store-refused : (r : ℕ) (suffices : Bool) (bit : ℕ → ℕ → ℕ) (n B k : ℕ) (store : List ℕ) → (r ≡ 0 → ⊥) → store ≡ storeAfter r suffices bit n B k store
+store-refused zero suffices bit n B k store h = absurd (h refl)
+store-refused (suc r) suffices bit n B k store h = refl
 
-pub store-filled : (r : ℕ) (s : Sampler) (ws : List ℕ) (first end k : ℕ) (x : Stretch) (store store′ : List ℕ)
-    → x ≡ stretchOf s (length ws) first end → r ≡ 0 → store′ ≡ storeOf (stretchBit x ws) (span x) (x .«block_size») k ++ drop (storeSize (x .«block_size») k) store
-    → let y = stretchOf s (length ws) first end in store′ ≡ storeAfter r (stretchBit y ws) (span y) (s .«block_size») k store
-store-filled r s ws first end k x store store′ is e h =
-    let f = subst (λ (y : Stretch). store′ ≡ storeOf (stretchBit y ws) (span y) (y .«block_size») k ++ drop (storeSize (y .«block_size») k) store) is h in
+pub store-left : (r : ℕ) (s : Sampler) (ws : List ℕ) (first end k : ℕ) (x : Stretch) (store store′ : List ℕ)
+    → x ≡ stretchOf s (length ws) first end → r ≡ 0
+    → store′ ≡ storeAfter 0 (storeSuffices (x .«block_size») k (length store)) (stretchBit x ws) (span x) (x .«block_size») k store
+    → let y = stretchOf s (length ws) first end in
+    store′ ≡ storeAfter r (storeSuffices (s .«block_size») k (length store)) (stretchBit y ws) (span y) (s .«block_size») k store
+store-left r s ws first end k x store store′ is e h =
+    let f = subst (λ (y : Stretch). store′ ≡ storeAfter 0 (storeSuffices (y .«block_size») k (length store)) (stretchBit y ws) (span y) (y .«block_size») k store) is h in
     rw e f

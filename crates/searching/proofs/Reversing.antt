@@ -15,8 +15,8 @@ use Rattle.counting.specs.Stretch.{stretchOf, stretchRefusal, stretchBit, span}
 use Rattle.counting.specs.declared.sampling.Sampler.{Sampler}
 use Rattle.counting.proofs.Reversing.{reversal, all-reversed}
 use Rattle.searching.specs.Claim.{Best}
-use Rattle.searching.specs.Refusal.{searchRefusal, directRefusal, layeredRefusal}
-use Rattle.searching.specs.Search.{answerOf, StretchSearch, DirectSearch, LayeredSearch}
+use Rattle.searching.specs.Refusal.{searchRefusal, bottomupRefusal}
+use Rattle.searching.specs.Search.{answerOf, StretchSearch, BottomupSearch}
 use Rattle.searching.specs.Reversed.{BestReversed, unmarked, SameUnmarked, LowAsHigh, LowIsHighReversed}
 use Rattle.searching.specs.declared.finding.Searched.{Searched}
 use Rattle.searching.proofs.Claiming.{stands}
@@ -63,18 +63,12 @@ module _ (s : Sampler) (ws : List ℕ) (first end k : ℕ) where
     orders = S .ordered ∙ sym (S′ .ordered);
   }
 
-  direct-same : (bins order : List ℕ) (r : Searched) (bins₁ order₁ : List ℕ) → DirectSearch s ws first end k bins order r bins₁ order₁
-      → (r′ : Searched) (bins₁′ order₁′ : List ℕ) → DirectSearch (highFirst s) ws first end k bins order r′ bins₁′ order₁′
-      → SameUnmarked r bins₁ order₁ r′ bins₁′ order₁′
-  unfolding directRefusal searchRefusal samplerRefusal stretchRefusal
-  direct-same bins order r bins₁ order₁ S r′ bins₁′ order₁′ S′ = search-same _ bins order r bins₁ order₁ S r′ bins₁′ order₁′ S′
-
-  layered-same : (store bins order : List ℕ) (r : Searched) (store₁ bins₁ order₁ : List ℕ)
-      → LayeredSearch s ws first end k store bins order r store₁ bins₁ order₁
-      → (r′ : Searched) (store₁′ bins₁′ order₁′ : List ℕ) → LayeredSearch (highFirst s) ws first end k store bins order r′ store₁′ bins₁′ order₁′
+  bottomup-same : (store bins order : List ℕ) (r : Searched) (store₁ bins₁ order₁ : List ℕ)
+      → BottomupSearch s ws first end k store bins order r store₁ bins₁ order₁
+      → (r′ : Searched) (store₁′ bins₁′ order₁′ : List ℕ) → BottomupSearch (highFirst s) ws first end k store bins order r′ store₁′ bins₁′ order₁′
       → SameUnmarked r bins₁ order₁ r′ bins₁′ order₁′ × (store₁ ≡ store₁′)
-  unfolding layeredRefusal searchRefusal samplerRefusal stretchRefusal
-  layered-same store bins order r store₁ bins₁ order₁ S r′ store₁′ bins₁′ order₁′ S′ =
+  unfolding bottomupRefusal searchRefusal samplerRefusal stretchRefusal
+  bottomup-same store bins order r store₁ bins₁ order₁ S r′ store₁′ bins₁′ order₁′ S′ =
       (search-same _ bins order r bins₁ order₁ (S .search) r′ bins₁′ order₁′ (S′ .search), S .stored ∙ sym (S′ .stored))
 
 -- ---- after any feeds
@@ -93,12 +87,8 @@ low-is-high-reversed B pieces ws answers s ws₁ acquired ws′ answers′ s′ 
       fed = H .said ∙ ap (λ (u : State). answersFrom u (reversedPieces pieces)) begin ∙ R .answers ∙ sym (L .said);
       words = words;
       sampler = sampler;
-      direct = λ first end k bins order r bins₁ order₁ S r′ bins₁′ order₁′ S′.
-          direct-same s ws₁ first end k bins order r bins₁ order₁ S r′ bins₁′ order₁′
-          (subst (λ (l : List ℕ). DirectSearch (highFirst s) l first end k bins order r′ bins₁′ order₁′) words
-          (subst (λ (q : Sampler). DirectSearch q ws₁′ first end k bins order r′ bins₁′ order₁′) sampler S′));
-      layered = λ first end k store bins order r store₁ bins₁ order₁ S r′ store₁′ bins₁′ order₁′ S′.
-          layered-same s ws₁ first end k store bins order r store₁ bins₁ order₁ S r′ store₁′ bins₁′ order₁′
-          (subst (λ (l : List ℕ). LayeredSearch (highFirst s) l first end k store bins order r′ store₁′ bins₁′ order₁′) words
-          (subst (λ (q : Sampler). LayeredSearch q ws₁′ first end k store bins order r′ store₁′ bins₁′ order₁′) sampler S′));
+      search = λ first end k store bins order r store₁ bins₁ order₁ S r′ store₁′ bins₁′ order₁′ S′.
+          bottomup-same s ws₁ first end k store bins order r store₁ bins₁ order₁ S r′ store₁′ bins₁′ order₁′
+          (subst (λ (l : List ℕ). BottomupSearch (highFirst s) l first end k store bins order r′ store₁′ bins₁′ order₁′) words
+          (subst (λ (q : Sampler). BottomupSearch q ws₁′ first end k store bins order r′ store₁′ bins₁′ order₁′) sampler S′));
     }

@@ -17,7 +17,7 @@ use Rattle.counting.specs.Stretch.{stretchRefusal, stretchBytes, stretchBit}
 use Rattle.counting.specs.declared.sampling.Sampler.{Sampler}
 use Rattle.counting.proofs.Alone.{stretches-alone}
 use Rattle.subsets.specs.Subsets.{lexLt}
-use Rattle.searching.specs.Refusal.{orElse, searchRefusal, directRefusal, layeredRefusal}
+use Rattle.searching.specs.Refusal.{orElse, searchRefusal, bottomupRefusal}
 use Rattle.searching.specs.Search.{Search}
 use Rattle.searching.specs.Claim.{Best}
 use Rattle.searching.specs.Stretches.{sampleOf, WholeStretches, WholeRecordings, BestAlone}
@@ -38,10 +38,9 @@ from-none : (P : (ℕ → ℕ → ℕ) → ℕ → Type 0) (bit : ℕ → ℕ �
 from-none P bit n = subst (λ (m : ℕ). P (onward 0 bit) (n - 0) → P bit m) (sub-zero n) (subst (λ (f : ℕ → ℕ → ℕ). P (onward 0 bit) (n - 0) → P f (n - 0)) (λ i e. bit (zero-add e i)) (λ p. p))
 
 pub whole-stretches : WholeStretches
-unfolding directRefusal layeredRefusal searchRefusal stretchBit
+unfolding bottomupRefusal searchRefusal stretchBit
 whole-stretches s words = record {
-  direct = λ k bins order. rw (never-outside s) (or-assoc (samplerRefusal s words) _ _);
-  layered = λ k a bins order. rw (never-outside s) (or-assoc (samplerRefusal s words) _ _);
+  refusal = λ k bins order. rw (never-outside s) (or-assoc (samplerRefusal s words) _ _);
   search = λ ws r k bins order answer bins′ order′ S.
       from-none (λ bit n. Search r (s .«low_first») bit n (s .«block_size») k bins order answer bins′ order′) (sampleOf s ws) (blocksOf s) S;
 }

@@ -6,7 +6,7 @@ use mathlib.Core.Bool.{Bool}
 use mathlib.Core.List.{List, [], _∷_, _++_}
 use lib.Dec.{T}
 use lib.Ieee.{lt}
-use lib.ListN.{length, take, drop}
+use lib.ListN.{length, take}
 use Rattle.counting.specs.Recording.{recording, refusalsFrom, blocksIn, recordedBit}
 use Rattle.counting.specs.Sample.{onward, countsOf}
 use Rattle.counting.specs.Sampling.{startedOf, startedWords, fedOf, fedWords}
@@ -15,10 +15,10 @@ use Rattle.counting.specs.declared.sampling.Started.{Started}
 use Rattle.counting.specs.declared.sampling.Fed.{Fed}
 use Rattle.ranking.specs.Order.{orderOf}
 use Rattle.ranking.specs.Ranking.{scoreOf}
-use Rattle.layers.specs.Store.{storeOf, storeSize}
+use Rattle.layers.specs.Store.{storeSuffices}
 use Rattle.subsets.specs.Subsets.{Subset, lexLt, padded}
 use Rattle.searching.specs.Finding.{zOf}
-use Rattle.searching.specs.Search.{DirectSearch, LayeredSearch}
+use Rattle.searching.specs.Search.{storeAfter, BottomupSearch}
 use Rattle.searching.specs.declared.finding.Finding.{Finding}
 use Rattle.searching.specs.declared.finding.Searched.{Searched}
 
@@ -57,24 +57,22 @@ BestIn B low held first end k = Best low (onward first (recordedBit B low held))
 abbrev pub BestOf : ℕ → Bool → List ℕ → ℕ → Finding → List ℕ → List ℕ → Type 0
 BestOf B low held k = Best low (recordedBit B low held) (blocksIn B held) B k
 
--- What holds of a search after an acquisition of the pieces: it is refused with 18 where the recording has not the blocks of the stretch, it succeeds where
--- it has and `Room` is there, and where it succeeds it has found the best of these blocks.
-pub record SearchClaim (B : ℕ) (low : Bool) (held : List ℕ) (first end k : ℕ) (Room : Type 0) (r : Searched) (bins′ order′ : List ℕ) : Type 0 where
-  pub outside : (end < first) ⊎ (blocksIn B held < end) → r .refusal ≡ 18
-  pub succeeds : first ≤ end → end ≤ blocksIn B held → Room → r .refusal ≡ 0
-  pub best : r .refusal ≡ 0 → BestIn B low held first end k (r .finding) bins′ order′
+-- width and buffers suffice for a search
+abbrev pub SearchRoom : ℕ → ℕ → List ℕ → List ℕ → Type 0
+SearchRoom B k bins order = (1 ≤ k) × (k ≤ 20) × (k ≤ B) × (2 ^ k ≤ length bins) × (2 ^ k ≤ length order)
 
--- width and buffers suffice for the direct search
-abbrev pub DirectRoom : ℕ → ℕ → List ℕ → List ℕ → Type 0
-DirectRoom B k bins order = (1 ≤ k) × (k ≤ 20) × (k ≤ B) × (2 ^ k ≤ length bins) × (2 ^ k ≤ length order)
-
--- and the store for the layered one
-abbrev pub LayeredRoom : ℕ → ℕ → List ℕ → List ℕ → List ℕ → Type 0
-LayeredRoom B k store bins order = DirectRoom B k bins order × (storeSize B k ≤ 2 ^ 32) × (storeSize B k ≤ length store)
-
--- the store then holds the all-set counts of the recording's blocks from `first` to before `end`, and past them what was there
+-- the store then holds, where it suffices, the all-set counts of the recording's blocks from `first` to before `end`, and past them what was there; else it is as lent
 abbrev pub StoredIn : ℕ → Bool → List ℕ → ℕ → ℕ → ℕ → List ℕ → List ℕ → Type 0
-StoredIn B low held first end k store store′ = store′ ≡ storeOf (onward first (recordedBit B low held)) (end - first) B k ++ drop (storeSize B k) store
+StoredIn B low held first end k store store′ =
+    store′ ≡ storeAfter 0 (storeSuffices B k (length store)) (onward first (recordedBit B low held)) (end - first) B k store
+
+-- What holds of a search after an acquisition of the pieces, whatever store it is lent: it is refused with 18 where the recording has not the blocks of the
+-- stretch, it succeeds where it has and there is room, and where it succeeds it has found the best of these blocks, and left the store as above.
+pub record SearchClaim (B : ℕ) (low : Bool) (held : List ℕ) (first end k : ℕ) (store bins order : List ℕ) (r : Searched) (store′ bins′ order′ : List ℕ) : Type 0 where
+  pub outside : (end < first) ⊎ (blocksIn B held < end) → r .refusal ≡ 18
+  pub succeeds : first ≤ end → end ≤ blocksIn B held → SearchRoom B k bins order → r .refusal ≡ 0
+  pub best : r .refusal ≡ 0 → BestIn B low held first end k (r .finding) bins′ order′
+  pub stored : r .refusal ≡ 0 → StoredIn B low held first end k store store′
 
 -- Two searches found the same, and left the same counts and order.
 pub record Same (k : ℕ) (r : Searched) (bins order : List ℕ) (r′ : Searched) (bins′ order′ : List ℕ) : Type 0 where
@@ -82,24 +80,20 @@ pub record Same (k : ℕ) (r : Searched) (bins order : List ℕ) (r′ : Searche
   pub counts : take (2 ^ k) bins ≡ take (2 ^ k) bins′
   pub orders : take (2 ^ k) order ≡ take (2 ^ k) order′
 
--- What holds after an acquisition: a feed was refused just where the plain recording refuses it, each search of a stretch finds the best of its blocks, the
--- layered one leaves their all-set counts in the store, and where both succeed they are the same.
+-- What holds after an acquisition: a feed was refused just where the plain recording refuses it, each search of a stretch finds the best of its blocks, and
+-- two that succeed, with whatever stores and buffers, find the same.
 pub record Claim (B : ℕ) (low : Bool) (ws : List ℕ) (pieces : List (List ℕ)) (answers : List ℕ) (s : Sampler) (ws′ : List ℕ) : Type 0 where
   pub fed : answers ≡ refusalsFrom B (length ws) [] pieces
-  pub direct :
-      (first end k : ℕ) (bins order : List ℕ) (r : Searched) (bins′ order′ : List ℕ)
-      → DirectSearch s ws′ first end k bins order r bins′ order′
-      → SearchClaim B low (recording B (length ws) pieces) first end k (DirectRoom B k bins order) r bins′ order′
-  pub layered :
+  pub search :
       (first end k : ℕ) (store bins order : List ℕ) (r : Searched) (store′ bins′ order′ : List ℕ)
-      → LayeredSearch s ws′ first end k store bins order r store′ bins′ order′
-      → SearchClaim B low (recording B (length ws) pieces) first end k (LayeredRoom B k store bins order) r bins′ order′
-      × (r .refusal ≡ 0 → StoredIn B low (recording B (length ws) pieces) first end k store store′)
+      → BottomupSearch s ws′ first end k store bins order r store′ bins′ order′
+      → SearchClaim B low (recording B (length ws) pieces) first end k store bins order r store′ bins′ order′
   pub same :
-      (first end k : ℕ) (bins order : List ℕ) (r : Searched) (bins′ order′ : List ℕ) → DirectSearch s ws′ first end k bins order r bins′ order′
-      → (store binsₗ orderₗ : List ℕ) (rₗ : Searched) (store′ binsₗ′ orderₗ′ : List ℕ)
-      → LayeredSearch s ws′ first end k store binsₗ orderₗ rₗ store′ binsₗ′ orderₗ′
-      → r .refusal ≡ 0 → rₗ .refusal ≡ 0 → Same k r bins′ order′ rₗ binsₗ′ orderₗ′
+      (first end k : ℕ) (store bins order : List ℕ) (r : Searched) (store′ bins′ order′ : List ℕ)
+      → BottomupSearch s ws′ first end k store bins order r store′ bins′ order′
+      → (store₂ bins₂ order₂ : List ℕ) (r₂ : Searched) (store₂′ bins₂′ order₂′ : List ℕ)
+      → BottomupSearch s ws′ first end k store₂ bins₂ order₂ r₂ store₂′ bins₂′ order₂′
+      → r .refusal ≡ 0 → r₂ .refusal ≡ 0 → Same k r bins′ order′ r₂ bins₂′ order₂′
 
 -- Theorem: that holds after every acquisition.
 abbrev pub Claims : Type 0

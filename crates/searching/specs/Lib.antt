@@ -4,6 +4,7 @@ pub mod Finding
 pub mod Refusal
 pub mod Pass
 pub mod Search
+pub mod AnyStore
 pub mod Claim
 pub mod Stretches
 pub mod Reversed

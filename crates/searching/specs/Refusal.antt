@@ -1,11 +1,10 @@
--- What the searches refuse: the first that applies.
+-- What the search refuses: the first that applies.
 use Prim.Native.Nat.{ℕ, zero, suc, _^_}
 use mathlib.Core.Bool.{cond}
 use lib.Dec.{leb}
 use Rattle.counting.specs.Sampling.{samplerRefusal}
 use Rattle.counting.specs.Stretch.{stretchRefusal}
 use Rattle.counting.specs.declared.sampling.Sampler.{Sampler}
-use Rattle.layers.specs.Store.{storeRefusal}
 use Rattle.subsets.specs.Bits.{validWidth}
 
 -- r where it is a refusal, else what comes after it
@@ -21,16 +20,11 @@ widthRefusal B k = cond (validWidth k) (cond (leb k B) 0 3) 2
 unfoldable pub bufferRefusal : ℕ → ℕ → ℕ → ℕ
 bufferRefusal k a b = cond (leb (2 ^ k) a) (cond (leb (2 ^ k) b) 0 7) 7
 
--- what both searches refuse first: 4, 18, 2, 3
+-- what comes before the buffers: 4, 18, 2, 3
 unfoldable pub searchRefusal : Sampler → ℕ → ℕ → ℕ → ℕ → ℕ
 searchRefusal s words first end k =
     orElse (samplerRefusal s words) (orElse (stretchRefusal s first end) (widthRefusal (s .«block_size») k))
 
--- the direct search: 4, 18, 2, 3, 7
-unfoldable pub directRefusal : Sampler → ℕ → ℕ → ℕ → ℕ → ℕ → ℕ → ℕ
-directRefusal s words first end k bins order = orElse (searchRefusal s words first end k) (bufferRefusal k bins order)
-
--- the layered search: 4, 18, 2, 3, 6, 7, with a store of a entries
-unfoldable pub layeredRefusal : Sampler → ℕ → ℕ → ℕ → ℕ → ℕ → ℕ → ℕ → ℕ
-layeredRefusal s words first end k a bins order =
-    orElse (searchRefusal s words first end k) (orElse (storeRefusal (s .«block_size») k a) (bufferRefusal k bins order))
+-- the search, whatever store it is lent: 4, 18, 2, 3, 7
+unfoldable pub bottomupRefusal : Sampler → ℕ → ℕ → ℕ → ℕ → ℕ → ℕ → ℕ
+bottomupRefusal s words first end k bins order = orElse (searchRefusal s words first end k) (bufferRefusal k bins order)

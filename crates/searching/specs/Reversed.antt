@@ -8,7 +8,7 @@ use Rattle.counting.specs.Reversed.{reversedBytes, reversedPieces, highFirst}
 use Rattle.counting.specs.declared.sampling.Sampler.{Sampler}
 use Rattle.searching.specs.Claim.{Acquisition, BestIn}
 use Rattle.searching.specs.Finding.{marked}
-use Rattle.searching.specs.Search.{DirectSearch, LayeredSearch}
+use Rattle.searching.specs.Search.{BottomupSearch}
 use Rattle.searching.specs.declared.finding.Finding.{Finding}
 use Rattle.searching.specs.declared.finding.Searched.{Searched}
 
@@ -34,14 +34,10 @@ pub record LowAsHigh (answers : List ℕ) (s : Sampler) (ws : List ℕ) (answers
   pub fed : answers′ ≡ answers
   pub words : ws′ ≡ ws
   pub sampler : s′ ≡ highFirst s
-  pub direct :
-      (first end k : ℕ) (bins order : List ℕ) (r : Searched) (bins₁ order₁ : List ℕ) → DirectSearch s ws first end k bins order r bins₁ order₁
-      → (r′ : Searched) (bins₁′ order₁′ : List ℕ) → DirectSearch s′ ws′ first end k bins order r′ bins₁′ order₁′
-      → SameUnmarked r bins₁ order₁ r′ bins₁′ order₁′
-  pub layered :
+  pub search :
       (first end k : ℕ) (store bins order : List ℕ) (r : Searched) (store₁ bins₁ order₁ : List ℕ)
-      → LayeredSearch s ws first end k store bins order r store₁ bins₁ order₁
-      → (r′ : Searched) (store₁′ bins₁′ order₁′ : List ℕ) → LayeredSearch s′ ws′ first end k store bins order r′ store₁′ bins₁′ order₁′
+      → BottomupSearch s ws first end k store bins order r store₁ bins₁ order₁
+      → (r′ : Searched) (store₁′ bins₁′ order₁′ : List ℕ) → BottomupSearch s′ ws′ first end k store bins order r′ store₁′ bins₁′ order₁′
       → SameUnmarked r bins₁ order₁ r′ bins₁′ order₁′ × (store₁ ≡ store₁′)
 
 -- Theorem: that holds of all such acquisitions, in as many words.

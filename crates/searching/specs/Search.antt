@@ -1,7 +1,7 @@
 -- What a search promises: its answer, and every entry of the lent buffers afterwards.
 use mathlib.Core.Path.{_≡_}
 use Prim.Native.Nat.{ℕ, zero, suc, _^_}
-use mathlib.Core.Bool.{Bool}
+use mathlib.Core.Bool.{Bool, true, false}
 use mathlib.Core.List.{List, _++_}
 use lib.ListN.{length, drop}
 use Rattle.counting.specs.Sample.{countsOf}
@@ -9,8 +9,8 @@ use Rattle.counting.specs.Stretch.{stretchOf, stretchBit, span}
 use Rattle.counting.specs.declared.sampling.Sampler.{Sampler}
 use Rattle.ranking.specs.Order.{orderOf}
 use Rattle.searching.specs.Finding.{winnerOf, findingOf, refusedWith}
-use Rattle.layers.specs.Store.{storeOf, storeSize}
-use Rattle.searching.specs.Refusal.{directRefusal, layeredRefusal}
+use Rattle.layers.specs.Store.{storeOf, storeSize, storeSuffices}
+use Rattle.searching.specs.Refusal.{bottomupRefusal}
 use Rattle.searching.specs.declared.finding.Searched.{Searched}
 
 -- the winner of n blocks in a bit order, or the refusal r where that is not 0
@@ -40,20 +40,18 @@ StretchSearch r s ws first end k =
     let x = stretchOf s (length ws) first end in
     Search r (s .«low_first») (stretchBit x ws) (span x) (s .«block_size») k
 
--- What the direct search promises.
-abbrev pub DirectSearch : Sampler → List ℕ → ℕ → ℕ → ℕ → List ℕ → List ℕ → Searched → List ℕ → List ℕ → Type 0
-DirectSearch s ws first end k bins order =
-    StretchSearch (directRefusal s (length ws) first end k (length bins) (length order)) s ws first end k bins order
+-- the store afterwards, where it suffices: the all-set counts of the smaller subsets, and past them as lent; all as lent where it does not, and where refused
+abbrev pub storeAfter : ℕ → Bool → (ℕ → ℕ → ℕ) → ℕ → ℕ → ℕ → List ℕ → List ℕ
+storeAfter zero true bit n B k store = storeOf bit n B k ++ drop (storeSize B k) store
+storeAfter zero false bit n B k store = store
+storeAfter (suc r) suffices bit n B k store = store
 
--- the store afterwards: the all-set counts of the smaller subsets, and past them as lent; all as lent where refused
-abbrev pub storeAfter : ℕ → (ℕ → ℕ → ℕ) → ℕ → ℕ → ℕ → List ℕ → List ℕ
-storeAfter zero bit n B k store = storeOf bit n B k ++ drop (storeSize B k) store
-storeAfter (suc r) bit n B k store = store
-
--- What the layered search promises, of the store too.
-pub record LayeredSearch (s : Sampler) (ws : List ℕ) (first end k : ℕ) (store bins order : List ℕ) (answer : Searched) (store′ bins′ order′ : List ℕ) : Type 0 where
+-- What `bottomup` promises: the store decides over itself alone, and nothing else goes by it.
+pub record BottomupSearch (s : Sampler) (ws : List ℕ) (first end k : ℕ) (store bins order : List ℕ) (answer : Searched) (store′ bins′ order′ : List ℕ) : Type 0 where
   pub search :
-      StretchSearch (layeredRefusal s (length ws) first end k (length store) (length bins) (length order)) s ws first end k bins order answer bins′ order′
+      StretchSearch (bottomupRefusal s (length ws) first end k (length bins) (length order)) s ws first end k bins order answer bins′ order′
   pub stored :
       let x = stretchOf s (length ws) first end in
-      store′ ≡ storeAfter (layeredRefusal s (length ws) first end k (length store) (length bins) (length order)) (stretchBit x ws) (span x) (s .«block_size») k store
+      store′
+      ≡ storeAfter (bottomupRefusal s (length ws) first end k (length bins) (length order)) (storeSuffices (s .«block_size») k (length store))
+      (stretchBit x ws) (span x) (s .«block_size») k store

@@ -10,8 +10,7 @@ use Rattle.counting.specs.Sampling.{blocksOf, samplerRefusal}
 use Rattle.counting.specs.Stretch.{stretchBytes}
 use Rattle.counting.specs.Words.{storedBit}
 use Rattle.counting.specs.declared.sampling.Sampler.{Sampler}
-use Rattle.layers.specs.Store.{storeRefusal}
-use Rattle.searching.specs.Refusal.{orElse, widthRefusal, bufferRefusal, directRefusal, layeredRefusal}
+use Rattle.searching.specs.Refusal.{orElse, widthRefusal, bufferRefusal, bottomupRefusal}
 use Rattle.searching.specs.Search.{Search, StretchSearch}
 use Rattle.searching.specs.Claim.{Acquisition, BestIn, BestOf}
 use Rattle.searching.specs.declared.finding.Finding.{Finding}
@@ -21,17 +20,12 @@ use Rattle.searching.specs.declared.finding.Searched.{Searched}
 abbrev pub sampleOf : Sampler → List ℕ → ℕ → ℕ → ℕ
 sampleOf s ws = storedBit (stride (s .«block_size») (length ws)) ws
 
--- Theorem: for every sampler, a search from 0 to n refuses 4, 2, 3, 7, or 4, 2, 3, 6, 7 with a store of a entries, and never 18; and with any refusal
--- it promises the search of all n blocks.
+-- Theorem: for every sampler, a search from 0 to n refuses 4, 2, 3, 7, and never 18; and with any refusal it promises the search of all n blocks.
 pub record WholeStretch (s : Sampler) (words : ℕ) : Type 0 where
-  pub direct :
+  pub refusal :
       (k bins order : ℕ)
-      → directRefusal s words 0 (blocksOf s) k bins order
+      → bottomupRefusal s words 0 (blocksOf s) k bins order
       ≡ orElse (samplerRefusal s words) (orElse (widthRefusal (s .«block_size») k) (bufferRefusal k bins order))
-  pub layered :
-      (k a bins order : ℕ)
-      → layeredRefusal s words 0 (blocksOf s) k a bins order
-      ≡ orElse (samplerRefusal s words) (orElse (widthRefusal (s .«block_size») k) (orElse (storeRefusal (s .«block_size») k a) (bufferRefusal k bins order)))
   pub search :
       (ws : List ℕ) (r k : ℕ) (bins order : List ℕ) (answer : Searched) (bins′ order′ : List ℕ)
       → StretchSearch r s ws 0 (blocksOf s) k bins order answer bins′ order′

@@ -11,8 +11,9 @@ use crate::pass::find;
 use counting::stretch::Stretch;
 use layers::store::fill_store;
 
-// Finds the best k-subset, and leaves the counts of the smaller subsets in the store; its other entries stay.
-pub fn find_layered(
+// Finds the best k-subset: one bin of each is counted, and the others are worked out from the counts of its subsets, which are left in the store; its other
+// entries stay.
+pub fn brute_force(
     words: &[u64],
     stretch: Stretch,
     k: usize,

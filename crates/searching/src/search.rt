@@ -1,58 +1,30 @@
-// The searches, as a caller meets them: each refuses what it cannot search, and leaves the buffers as lent where it does.
+// The search, as a caller meets it: it refuses what it cannot search, and leaves everything as lent where it does.
 ghost use mathlib.Core.Path.{_≡_};
 ghost use Prim.Native.Nat.{_*_, _<_};
-ghost use Rattle.searching.specs.Refusal.{widthRefusal, bufferRefusal, searchRefusal, directRefusal, layeredRefusal};
-ghost use Rattle.searching.specs.Search.{DirectSearch, LayeredSearch};
+ghost use lib.ListN.{length};
+ghost use Rattle.counting.specs.Stretch.{span, stretchBit};
+ghost use Rattle.layers.specs.Store.{storeSuffices};
+ghost use Rattle.searching.specs.Pass.{Searchable, BufferRoom, Won};
+ghost use Rattle.searching.specs.Refusal.{widthRefusal, bufferRefusal, searchRefusal, bottomupRefusal};
+ghost use Rattle.searching.specs.Search.{BottomupSearch, storeAfter};
+use crate::direct::brute_force_threads;
+use crate::finding::Finding;
 use crate::finding::Searched;
 use crate::finding::marked;
 use crate::finding::refused;
-use crate::layered::find_layered;
-use crate::pass::find;
+use crate::layered::brute_force;
 use counting::sampling::Sampler;
 use counting::sampling::sampler_refusal;
+use counting::stretch::Stretch;
 use counting::stretch::stretch_of;
 use counting::stretch::stretch_refusal;
-use layers::size::store_refusal;
+use layers::size::store_suffices;
 use ranking::ranking::bin_count;
 use subsets::bits::valid_width;
 
-// The direct search: every bin of every subset is counted from the rows, over the blocks from `first` to before `end`.
-// Refusals 4, 18, 2, 3, 7.
-pub fn brute_force_threads(
-    sampler: Sampler,
-    words: &[u64],
-    first: usize,
-    end: usize,
-    k: usize,
-    bins: &mut [u32],
-    order: &mut [u32],
-) -> Searched
-    ensures { λ r. ⌜ DirectSearch sampler (now (words .entry)) first end k (now (bins .entry)) (now (order .entry)) r (now (bins .exit)) (now (order .exit)) ⌝ }
-{
-    let refusal = direct_refusal(sampler, words.len(), first, end, k, bins.len(), order.len());
-    if refusal != 0 {
-        return refused(refusal);
-    }
-    let none: [u32; 0] = [];
-    let mut no_run: [u32; 0] = [];
-    let finding = find(
-        words,
-        stretch_of(sampler, words.len(), first, end),
-        k,
-        &none,
-        &mut no_run,
-        bins,
-        order,
-    );
-    Searched {
-        refusal: 0,
-        finding: marked(finding, sampler.low_first),
-    }
-}
-
-// The layered search of these blocks: one bin of each subset is counted, and the others are worked out from the counts of its subsets, which are left in the
-// store. Refusals 4, 18, 2, 3, 6, 7.
-pub fn brute_force(
+// The best k-subset of the blocks from `first` to before `end`: by layers where the store is long enough and its size at most 2^32, and the counts of the
+// smaller subsets are then left in it; else every bin is counted, and the store stays as lent. Refusals 4, 18, 2, 3, 7.
+pub fn bottomup(
     sampler: Sampler,
     words: &[u64],
     first: usize,
@@ -62,62 +34,42 @@ pub fn brute_force(
     bins: &mut [u32],
     order: &mut [u32],
 ) -> Searched
-    ensures { λ r. ⌜ LayeredSearch sampler (now (words .entry)) first end k (now (store .entry)) (now (bins .entry)) (now (order .entry)) r (now (store .exit)) (now (bins .exit)) (now (order .exit)) ⌝ }
+    ensures { λ r. ⌜ BottomupSearch sampler (now (words .entry)) first end k (now (store .entry)) (now (bins .entry)) (now (order .entry)) r (now (store .exit)) (now (bins .exit)) (now (order .exit)) ⌝ }
 {
-    let refusal = layered_refusal(
-        sampler,
-        words.len(),
-        first,
-        end,
-        k,
-        store.len(),
-        bins.len(),
-        order.len(),
-    );
+    let refusal = bottomup_refusal(sampler, words.len(), first, end, k, bins.len(), order.len());
     if refusal != 0 {
         return refused(refusal);
     }
-    let finding = find_layered(
-        words,
-        stretch_of(sampler, words.len(), first, end),
-        k,
-        store,
-        bins,
-        order,
-    );
+    let stretch = stretch_of(sampler, words.len(), first, end);
+    let finding = search_stretch(words, stretch, k, store, bins, order);
     Searched {
         refusal: 0,
         finding: marked(finding, sampler.low_first),
     }
 }
 
-// 4, 18, 2, 3, 6, 7, or 0 where the layered search can be made with a store of `store` entries.
-fn layered_refusal(
-    sampler: Sampler,
-    words: usize,
-    first: usize,
-    end: usize,
+// The best k-subset of a stretch, in the way that the store allows.
+fn search_stretch(
+    words: &[u64],
+    stretch: Stretch,
     k: usize,
-    store: usize,
-    bins: usize,
-    order: usize,
-) -> u32
-    requires { ⌜ 8 * words < 9223372036854775808 ⌝ }
-    ensures { λ r. ⌜ r ≡ layeredRefusal sampler words first end k store bins order ⌝ }
+    store: &mut [u32],
+    bins: &mut [u32],
+    order: &mut [u32],
+) -> Finding
+    requires { ⌜ Searchable (length (now words)) stretch k ⌝ }
+    requires { ⌜ BufferRoom k (now bins) (now order) ⌝ }
+    ensures { λ r. ⌜ Won (stretchBit stretch (now (words .entry))) (span stretch) (stretch .«block_size») k (now (bins .entry)) (now (order .entry)) r (now (bins .exit)) (now (order .exit)) ⌝ }
+    ensures { λ _. ⌜ now (store .exit) ≡ storeAfter 0 (storeSuffices (stretch .«block_size») k (length (now (store .entry)))) (stretchBit stretch (now (words .entry))) (span stretch) (stretch .«block_size») k (now (store .entry)) ⌝ }
 {
-    let refusal = search_refusal(sampler, words, first, end, k);
-    if refusal != 0 {
-        return refusal;
+    if store_suffices(stretch.block_size, k, store.len()) {
+        return brute_force(words, stretch, k, store, bins, order);
     }
-    let short = store_refusal(sampler.block_size, k, store);
-    if short != 0 {
-        return short;
-    }
-    buffer_refusal(k, bins, order)
+    brute_force_threads(words, stretch, k, bins, order)
 }
 
-// 4, 18, 2, 3, 7, or 0 where the direct search can be made.
-fn direct_refusal(
+// 4, 18, 2, 3, 7, or 0 where a search can be made.
+fn bottomup_refusal(
     sampler: Sampler,
     words: usize,
     first: usize,
@@ -127,7 +79,7 @@ fn direct_refusal(
     order: usize,
 ) -> u32
     requires { ⌜ 8 * words < 9223372036854775808 ⌝ }
-    ensures { λ r. ⌜ r ≡ directRefusal sampler words first end k bins order ⌝ }
+    ensures { λ r. ⌜ r ≡ bottomupRefusal sampler words first end k bins order ⌝ }
 {
     let refusal = search_refusal(sampler, words, first, end, k);
     if refusal != 0 {

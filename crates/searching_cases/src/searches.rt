@@ -1,9 +1,10 @@
 // Cases of searches: B, the bit order, 1 where the low bit comes first, and the number of lent words; the number of pieces, for each its length and its bytes;
 // the number of searches, for each the first block and the end of the stretch, k, the lengths of the bin buffer, the order buffer and the store, and
 // 0 for the sampler last returned, or 1 and another sampler's four fields.
-// Answer: a line for start and the feeds; for each search, first direct, then layered, a line with what it answers, the finding's bit order last, one with the
-// first 2 ^ k counts, one with the first 2 ^ k entries of the order, and one with how many other entries of the buffers, and of the store, are no longer as
-// lent, and of the store the sum of its counts, each times its place. Where it is refused, all entries are such others, and the sum is 0.
+// Answer: a line for start and the feeds; for each search, first with the store, then with none, a line with what it answers, the finding's bit order last, one
+// with the first 2 ^ k counts, one with the first 2 ^ k entries of the order, and one with how many other entries of the buffers and of the store are no longer
+// as lent, and of the store the sum of its counts, each times its place. Where it is refused, all entries are such others, and the sum is 0; so it is of a store
+// that does not suffice.
 ghost use mathlib.Core.Path.{_≡_};
 ghost use lib.ListN.{length};
 use cases::entries::changed;
@@ -17,11 +18,10 @@ use cases::printing::print;
 use cases::reading::at_most;
 use cases::reading::number;
 use counting::sampling::Sampler;
-use layers::size::store_size;
+use layers::size::store_needed;
 use ranking::ranking::bin_count;
 use searching::finding::Searched;
-use searching::search::brute_force;
-use searching::search::brute_force_threads;
+use searching::search::bottomup;
 
 // What the searches are given, and the place reached in the text.
 struct Search {
@@ -92,8 +92,8 @@ fn search_all(text: &[u8], at: usize, sampler: Sampler, words: &[u64]) -> usize 
 
 fn search_one(text: &[u8], at: usize, sampler: Sampler, words: &[u64]) -> usize {
     let search = read_search(text, at, sampler);
-    direct(search, words);
-    layered(search, words);
+    lend(search, words, search.store);
+    lend(search, words, 0);
     search.at
 }
 
@@ -141,36 +141,15 @@ fn given_sampler(text: &[u8], at: usize, returned: Sampler) -> Given {
     }
 }
 
-fn direct(search: Search, words: &[u64]) {
-    let mut bins = buffer();
-    let mut order = buffer();
-    let a = at_most(search.bins, 1024);
-    let b = at_most(search.order, 1024);
-    direct_with(search, words, &mut bins[..a], &mut order[..b]);
-}
-
-fn direct_with(search: Search, words: &[u64], bins: &mut [u32], order: &mut [u32]) {
-    let searched = brute_force_threads(
-        search.sampler,
-        words,
-        search.first,
-        search.end,
-        search.k,
-        bins,
-        order,
-    );
-    print_answer(searched, search.k, bins, order);
-    end_line();
-}
-
-fn layered(search: Search, words: &[u64]) {
+// Lends buffers of as many entries as the search says, and a store of so many.
+fn lend(search: Search, words: &[u64], entries: u64) {
     let mut bins = buffer();
     let mut order = buffer();
     let mut counts = store();
     let a = at_most(search.bins, 1024);
     let b = at_most(search.order, 1024);
-    let c = at_most(search.store, 65536);
-    layered_with(
+    let c = at_most(entries, 65536);
+    answer(
         search,
         words,
         &mut counts[..c],
@@ -179,14 +158,8 @@ fn layered(search: Search, words: &[u64]) {
     );
 }
 
-fn layered_with(
-    search: Search,
-    words: &[u64],
-    store: &mut [u32],
-    bins: &mut [u32],
-    order: &mut [u32],
-) {
-    let searched = brute_force(
+fn answer(search: Search, words: &[u64], store: &mut [u32], bins: &mut [u32], order: &mut [u32]) {
+    let searched = bottomup(
         search.sampler,
         words,
         search.first,
@@ -197,7 +170,12 @@ fn layered_with(
         order,
     );
     print_answer(searched, search.k, bins, order);
-    let kept = kept_entries(searched.refusal, search.sampler.block_size, search.k);
+    let kept = kept_entries(
+        searched.refusal,
+        search.sampler.block_size,
+        search.k,
+        store.len(),
+    );
     print(changed(store, kept) as u64);
     print(weighed(store, kept));
     end_line();
@@ -216,18 +194,16 @@ fn store() -> [u32; 65536]
     [99; 65536]
 }
 
-// How many counts a search leaves in the store: none where it is refused.
-fn kept_entries(refusal: u32, block_size: usize, k: usize) -> usize {
+// How many counts a search leaves in a store of so many entries: none where it is refused, or the store does not suffice.
+fn kept_entries(refusal: u32, block_size: usize, k: usize, entries: usize) -> usize {
     if refusal != 0 {
         return 0;
     }
-    if block_size > 4096 {
+    let needed = store_needed(block_size, k);
+    if needed > entries {
         return 0;
     }
-    if k > 20 {
-        return 0;
-    }
-    store_size(block_size, k)
+    needed
 }
 
 fn print_answer(searched: Searched, k: usize, bins: &[u32], order: &[u32]) {

@@ -122,8 +122,8 @@ unfolding startedOf
 started-free B words ok = rw ok
 
 pub training-found : TrainingFound
-training-found B k ws bytes answers sampler ws′ acquired size bins order t r bins′ order′ search =
-    let claim = claims B false ws (bytes ∷ []) answers sampler ws′ acquired .direct 0 (blocksOf sampler) k bins order r bins′ order′ search in
+training-found B k ws bytes answers sampler ws′ acquired size store bins order t r store′ bins′ order′ search =
+    let claim = claims B false ws (bytes ∷ []) answers sampler ws′ acquired .search 0 (blocksOf sampler) k store bins order r store′ bins′ order′ search in
     let whole = whole-recordings B false ws (bytes ∷ []) answers sampler ws′ acquired in
     let v = valid-facts B (t .valid) in
     let high : k ≤ 20 = omega arith in

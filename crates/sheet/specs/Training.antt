@@ -12,7 +12,7 @@ use Rattle.counting.specs.declared.sampling.Sampler.{Sampler}
 use Rattle.ranking.specs.Order.{orderOf}
 use Rattle.searching.specs.Claim.{Acquisition}
 use Rattle.searching.specs.Finding.{winnerOf, findingOf}
-use Rattle.searching.specs.Search.{DirectSearch}
+use Rattle.searching.specs.Search.{BottomupSearch}
 use Rattle.searching.specs.declared.finding.Finding.{Finding}
 use Rattle.searching.specs.declared.finding.Searched.{Searched}
 
@@ -46,9 +46,10 @@ pub record Trained (B k : ℕ) (bytes : List ℕ) (f : Finding) (order : List �
 abbrev pub TrainingFits : Type 0
 TrainingFits = (B : ℕ) (bytes : List ℕ) → validSize B ≡ true → B ≤ 64 → length bytes ≤ 4096 → recording B 576 (bytes ∷ []) ≡ bytes
 
--- Theorem: after a start in these words and a feed of the bytes, the direct search of all blocks is not refused, and what it finds is that.
+-- Theorem: after a start in these words and a feed of the bytes, the search of all blocks is not refused, and what it finds is that, whatever the store.
 abbrev pub TrainingFound : Type 0
 TrainingFound =
     (B k : ℕ) (ws bytes answers : List ℕ) (sampler : Sampler) (ws′ : List ℕ) → Acquisition B false ws (bytes ∷ []) answers sampler ws′
-    → length ws ≡ 576 → (bins order : List ℕ) → Trainable B k bytes (length bins) (length order)
-    → (r : Searched) (bins′ order′ : List ℕ) → DirectSearch sampler ws′ 0 (blocksOf sampler) k bins order r bins′ order′ → (r .refusal ≡ 0) × Trained B k bytes (r .finding) order′
+    → length ws ≡ 576 → (store bins order : List ℕ) → Trainable B k bytes (length bins) (length order)
+    → (r : Searched) (store′ bins′ order′ : List ℕ) → BottomupSearch sampler ws′ 0 (blocksOf sampler) k store bins order r store′ bins′ order′
+    → (r .refusal ≡ 0) × Trained B k bytes (r .finding) order′

@@ -1,4 +1,4 @@
-// The search of the training bytes, in words of the program's own.
+// The search of the training bytes, in words and a store of the program's own.
 ghost use mathlib.Core.Path.{_≡_};
 ghost use lib.ListN.{length};
 ghost use Rattle.sheet.specs.Training.{Trainable, Trained};
@@ -6,9 +6,9 @@ use counting::sampling::blocks;
 use counting::sampling::feed;
 use counting::sampling::start;
 use searching::finding::Finding;
-use searching::search::brute_force_threads;
+use searching::search::bottomup;
 
-// The best subset of the training bytes, high bit first, by the direct search; its bin order stands in the first 2 ^ k entries of the order buffer afterwards.
+// The best subset of the training bytes, high bit first; its bin order stands in the first 2 ^ k entries of the order buffer afterwards.
 // The other entries of the order buffer, and the bin buffer, are free.
 pub fn train(
     block_size: usize,
@@ -21,10 +21,11 @@ pub fn train(
     ensures { λ r. ⌜ Trained «block_size» k (now (training .entry)) r (now (order .exit)) ⌝ }
 {
     let mut words = room();
+    let mut store = store_room();
     let started = start(block_size, false, &mut words);
     let fed = feed(started.sampler, &mut words, training);
     let n = blocks(fed.sampler);
-    let searched = brute_force_threads(fed.sampler, &words, 0, n, k, bins, order);
+    let searched = bottomup(fed.sampler, &words, 0, n, k, &mut store, bins, order);
     searched.finding
 }
 
@@ -33,4 +34,11 @@ fn room() -> [u64; 576]
     ensures { λ r. ⌜ 576 ≡ length r ⌝ }
 {
     [0; 576]
+}
+
+// A store for the subsets of up to 4 bits of a block of 64, so for every search of 5 bits; of more bits those of the smaller blocks fit too.
+fn store_room() -> [u32; 679120]
+    ensures { λ r. ⌜ 679120 ≡ length r ⌝ }
+{
+    [0; 679120]
 }

@@ -1,5 +1,5 @@
 -- `compute_index`'s refusals: what the test of a width shows, and the answer where a test fails and where all pass.
-use mathlib.Core.Path.{_≡_, sym, ap, _∙_}
+use mathlib.Core.Path.{_≡_, refl, sym, ap, _∙_}
 use Prim.Native.Nat.{ℕ, _^_, _≤_, _<_}
 use mathlib.Core.Bool.{true, false}
 use mathlib.Core.List.{List}
@@ -16,6 +16,10 @@ use Rattle.subsets.proofs.Choosing.{told-above, told-within}
 pub width-bounds : (k : ℕ) → validWidth k ≡ true → (1 ≤ k) × (k ≤ 20)
 unfolding validWidth
 width-bounds k e = let w = both (leb 1 k) (leb k 20) e in (leb-true 1 k (w .0), leb-true k 20 (w .1))
+
+pub valid-width : (k : ℕ) → 1 ≤ k → k ≤ 20 → validWidth k ≡ true
+unfolding validWidth
+valid-width k low high = rw (le-leb 1 k low, le-leb k 20 high) refl
 
 -- an answer, as the code builds it
 abbrev answer : ℕ → ℕ → Ranked

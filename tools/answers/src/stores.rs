@@ -1,4 +1,4 @@
-//! What the store of a layered search holds afterwards: for each set of 1 to max(1, k - 1) bits how many blocks have all its bits set.
+//! What a store that suffices holds after a search: for each set of 1 to max(1, k - 1) bits how many blocks have all its bits set.
 
 use crate::{choose, compute_index, multi_eval, Rows};
 use itertools::Itertools;

@@ -20,11 +20,11 @@ use Rattle.ranking.proofs.ranking.divide.Statement.{statement}
 use Rattle.ranking.proofs.ranking.divide.Tie as tie
 
 abbrev Inv-loop : tie.InvT-loop
-Inv-loop bins order n k roots best₀ c₀ i₀ best c i =
+Inv-loop bins order n k roots half best₀ c₀ i₀ best c i =
     (best ≡ asRanking (peak lt zeroScore (sizeAt n k (inBinOrder bins)) i)) × (c ≡ total (take i (inBinOrder bins))) × (i < length bins)
 
 abbrev μ-loop : tie.MeasureT-loop
-μ-loop bins order n k roots best₀ c₀ i₀ best c i = length bins - i
+μ-loop bins order n k roots half best₀ c₀ i₀ best c i = length bins - i
 
 -- one more division: where the best of i divisions, the sum and the size are right, so is the better of the two
 more : (n k : ℕ) (ordered : List ℕ) (i j c : ℕ) (best r : Ranking) (z : Float) → j ≡ suc i → best ≡ asRanking (peak lt zeroScore (sizeAt n k ordered) i)
@@ -44,9 +44,12 @@ added bins order i c O C h = ap₂ (λ (x : ℕ) (s : List ℕ). x + getD bins (
 loop-holds : tie.Need-loop-holds Inv-loop μ-loop
 unfolding peak total ofBits
 loop-holds c =
-    let o = c .before .before .before in
+    let o = c .before .before .before .before in
     let p : 0 < 2 ^ o .args .k = pow-pos (o .args .k) in
     (refl, refl, omega arith)
+
+half-power-requires : tie.Need-half-power-requires Inv-loop μ-loop
+half-power-requires c κs = search needs
 
 add-loop : tie.Need-add-loop Inv-loop μ-loop
 add-loop c = search needs
@@ -56,27 +59,27 @@ add-division c = search needs
 
 count-at-requires : tie.Need-count-at-requires Inv-loop μ-loop
 count-at-requires c κs =
-    let o = c .before .before .before .before .before in
+    let o = c .before .before .before .before .before .before in
     let e : length (o .args .order .now) ≡ length (o .args .bins .now) = ap length (o .pre .3) ∙ order-length (o .args .bins .now) in
     (omega arith, subst (BinsBelow (length (o .args .bins .now))) (sym (o .pre .3)) (order-below (o .args .bins .now)))
 
 add-c : tie.Need-add-c Inv-loop μ-loop
 add-c c =
     let l = c .before .before in
-    let o = l .before .before .before .before in
+    let o = l .before .before .before .before .before in
     let r = c .count-at in
     let s = added (o .args .bins .now) (o .args .order .now) (l .loop .i) (l .loop .c) (o .pre .3) (l .loop .inv .1) (l .loop .inv .2) in
     omega (arith, r .ensures, sum-most (o .args .bins .now) (suc (l .loop .i)), o .pre .2)
 
 cast-better : tie.Need-cast-better Inv-loop μ-loop
 cast-better c =
-    let o = c .before .before .before .before .before .before in
+    let o = c .before .before .before .before .before .before .before in
     let p : 2 ^ o .args .k ≤ 2 ^ 20 = pow-mono {j = 20} (o .pre .0) in
     omega (arith, o .pre .1)
 
 cast-size-at : tie.Need-cast-size-at Inv-loop μ-loop
 cast-size-at c =
-    let o = c .before .before .before .before .before .before in
+    let o = c .before .before .before .before .before .before .before in
     let p : 2 ^ o .args .k ≤ 2 ^ 20 = pow-mono {j = 20} (o .pre .0) in
     omega (arith, o .pre .1)
 
@@ -92,7 +95,7 @@ loop-less c = search needs
 loop-again : tie.Need-loop-again Inv-loop μ-loop
 loop-again c =
     let l = c .before .before .before .before in
-    let o = l .before .before .before .before in
+    let o = l .before .before .before .before .before in
     let r = c .before .before .count-at in
     let s : l .loop .c + r .result ≡ total (take (l .loop .i + 1) (inBinOrder (o .args .bins .now))) =
     ap (λ (x : ℕ). l .loop .c + x) (r .ensures)
@@ -108,7 +111,7 @@ returns : tie.Need-returns Inv-loop μ-loop
 unfolding scoreOf
 returns c =
     let l = c .before in
-    let o = l .before .before .before .before in
+    let o = l .before .before .before .before .before in
     let e : l .loop .i ≡ 2 ^ o .args .k - 1 = omega (arith, o .pre .1) in
     l .loop .inv .0 ∙ ap (λ (i : ℕ). asRanking (peak lt zeroScore (sizeAt (o .args .n) (o .args .k) (inBinOrder (o .args .bins .now))) i)) e
 
@@ -118,6 +121,7 @@ divide-spec =
     (tie.spec
     Inv-loop
     μ-loop
+    half-power-requires
     loop-holds
     add-loop
     add-division

@@ -6,8 +6,8 @@ use borrow.Author.Needs.{needs}
 use Rattle.ranking.proofs.ranking.size_at.Statement.{statement}
 use Rattle.ranking.proofs.ranking.size_at.Tie as tie
 
-share-requires : tie.Need-share-requires
-share-requires c κs = search needs
+share-by-requires : tie.Need-share-by-requires
+share-by-requires c κs = search needs
 
 root-at-requires : tie.Need-root-at-requires
 root-at-requires c κs = search needs
@@ -23,8 +23,8 @@ unfolding zScore
 returns c =
     let o = c .before .before .before .before .before in
     c .absolute .ensures ∙ ap abs (c .before .z-over .ensures
-    ∙ ap₂ (λ (p d : Float). zOver (o .args .n) (o .args .c) p d) (c .before .before .before .share .ensures) (c .before .before .root-at .ensures))
+    ∙ ap₂ (λ (p d : Float). zOver (o .args .n) (o .args .c) p d) (c .before .before .before .share-by .ensures) (c .before .before .root-at .ensures))
 
 pub size-at-spec : {M : Type 1} → statement M
 size-at-spec =
-    tie.close (tie.spec share-requires root-at-requires z-over-requires absolute-requires returns)
+    tie.close (tie.spec share-by-requires root-at-requires z-over-requires absolute-requires returns)

@@ -1,4 +1,4 @@
-//! Cases for `crates/replay_cases`: a recording in pieces, both searches after it, and all that was lent.
+//! Cases for `crates/replay_cases`: a recording in pieces, the search with the store and with none after it, and all that was lent.
 
 use answers::order::high_first;
 use answers::*;
@@ -25,16 +25,16 @@ const ENTRY: usize = 99;
 fn main() {
     let mut sheet = Sheet::default();
     sheet.note("Cases of the replay crate. Made, with their answers, by `tools/answers/run replay REFERENCE`; no answer is our own program's.");
-    sheet.note("Findings: the reference's bottomup on the bytes held, with threads = 1; where the layered search runs, they agree where threads = 0 gives the same.");
+    sheet.note("Findings: the reference's bottomup on the bytes held, with threads = 1; where the store suffices, they agree where threads = 0 gives the same.");
     sheet.note("Counts: its evaluate_histogram on those bytes; of a store its multi_eval on transform_data of them. Refusals, refused feeds, the entries S that a store");
     sheet.note("needs and the words by the rules in that tool, where the row bits below n are held against transform_data. Every word is lent with all ones, every other");
     sheet.note("entry as 99.");
     sheet.note(&order::note("the last ones as they are drawn"));
     sheet.note("Each: B, the bit order, k, how many words, bins, entries of the order and of the store are lent; the number of the recording's bytes, and each; the");
     sheet.note("number of lengths, and each.");
-    sheet.note("Answer: a line with refusal, refused feeds, whether the layered search ran, whether the findings agree, B, width, 20 bits, division, the pattern of z");
-    sheet.note("and the bit order; all words; the whole bin buffer; the whole order buffer; a line with how many entries of the store, where the layered search ran of");
-    sheet.note("those past S, are no longer as lent, and, where it ran, the sum of (i + 1) x entry i for i below S, modulo 2^64, else 0.");
+    sheet.note("Answer: a line with refusal, refused feeds, whether the store suffices, whether the findings agree, B, width, 20 bits, division, the pattern of z and");
+    sheet.note("the bit order; all words; the whole bin buffer; the whole order buffer; a line with how many entries of the store, where it suffices of those past S, are");
+    sheet.note("no longer as lent, and, where it does, the sum of (i + 1) x entry i for i below S, modulo 2^64, else 0.");
     sheet.note(&run::note());
     let cases = cases::all(&mut Draws::new(10));
     sheet.case([cases.len()]);
@@ -44,7 +44,7 @@ fn main() {
     sheet.save();
 }
 
-/// The entries of the store for the layered search of width k.
+/// The entries that a store needs at width k.
 fn store_entries(block_size: usize, k: usize) -> usize {
     (1..=1.max(k - 1)).map(|d| choose(block_size, d)).fold(0, usize::saturating_add)
 }
@@ -126,7 +126,7 @@ fn answer(sheet: &mut Sheet, case: &Case, low_first: bool) {
     let blocks = high_first(&held, low_first);
     let layered = case.store >= store_entries(case.block_size, case.k);
     let finding = bottomup(&blocks, case.block_size, case.k, 1).unwrap();
-    let agree = !layered || bottomup(&blocks, case.block_size, case.k, 0).unwrap() == finding;
+    let agree = bottomup(&blocks, case.block_size, case.k, if layered { 0 } else { 1 }).unwrap() == finding;
     let mut line = vec![0, refused as u64, layered as u64, agree as u64, finding.block_size as u64, finding.bits.len() as u64];
     line.extend(finding.bits.iter().map(|bit| *bit as u64));
     line.resize(26, 0);

@@ -16,6 +16,7 @@ pub fn write(sheet: &mut Sheet, draws: &mut Draws) {
     cases.extend(every_width(draws));
     cases.extend(largest_samples());
     cases.extend(wide(draws));
+    cases.extend(ends_of_keys(&mut Draws::new(64)));
     cases.extend(run::sample().filter_map(case_of_run));
     sheet.note("Rankings: the reference's Histogram::from_bins. Each: k, the length of the table of roots that is worked out beforehand, the 2^k counts.");
     sheet.note("Answer: a line with division and the pattern of z, a line with the order and two entries past it, lent as 99.");
@@ -106,6 +107,22 @@ fn wide(draws: &mut Draws) -> Vec<Case> {
     let mut cases = vec![Case { k: 10, roots: 256, bins: counts(draws, 12, 1024) }];
     for (roots, kind) in [(0, 12), (4096, 11), (256, 9)] {
         cases.push(Case { k: 12, roots, bins: counts(draws, kind, 4096) });
+    }
+    cases
+}
+
+/// Counts that lie as far apart as our sorting has keys, 64, 256 or, from 256 bins on, 1,024, one less and one more, with many at either end.
+fn ends_of_keys(draws: &mut Draws) -> Vec<Case> {
+    let mut cases = Vec::new();
+    for k in 3..=8 {
+        let m = 1 << k;
+        let keys: &[usize] = if k < 8 { &[64, 256] } else { &[1024] };
+        for span in keys.iter().flat_map(|keys| keys - 2..=keys + 1) {
+            let (base, least, greatest) = ([0, 1, 3000][draws.below(3)], draws.below(m / 2), m / 2 + draws.below(m / 2));
+            let mut above: Vec<usize> = (0..m).map(|_| [0, 1, span - 1, span, draws.below(span)][draws.below(5)]).collect();
+            (above[least], above[greatest]) = (0, span);
+            cases.push(Case { k, roots: m, bins: above.into_iter().map(|more| base + more).collect() });
+        }
     }
     cases
 }

@@ -1,4 +1,4 @@
-//! Whole searches, direct and layered, over recordings full of ties.
+//! Whole searches, each with a store and with none, over recordings full of ties.
 
 use crate::binomial;
 use answers::order::{both, high_first, reversed, turned};
@@ -56,14 +56,15 @@ pub fn write(sheet: &mut Sheet, draws: &mut Draws) {
     cases.extend(both(long(draws)));
     cases.extend(stretches::cases(draws));
     cases.extend(run::sample().filter_map(case_of_run));
-    sheet.note("Searches: the reference's bottomup on the blocks of the stretch alone, with threads = 1 for the direct and 0 for the layered search; the winner's counts by its evaluate_histogram.");
-    sheet.note("Counts of a store: its multi_eval on transform_data of these blocks. Refusals, and the entries S that a store needs, by the rules in that tool.");
+    sheet.note("Searches: the reference's bottomup on the blocks of the stretch alone, with threads = 0 where the store has the S entries needed and S is at most 2^32,");
+    sheet.note("else with threads = 1; the winner's counts by its evaluate_histogram. Counts of a store: its multi_eval on transform_data of these blocks. Refusals, and S,");
+    sheet.note("by the rules in that tool.");
     sheet.note(&order::note("the last ones as they are drawn"));
     sheet.note("Each: B, the bit order and the number of lent words; the number of pieces, and for each its length and its bytes; the number of searches, and for each");
     sheet.note("first and end, k, the lengths of bin buffer, order buffer and store, and 0, or 1 with another sampler's B, words, T and bit order. Answer: a line for");
-    sheet.note("the calls of start and feed; for each search, first direct, then layered: a line with refusal, B, width, 20 bits, division, the pattern of z and the bit");
-    sheet.note("order; a line with the counts, one with the order, and one with how many other entries of each buffer, layered of the store past S too, are no longer as");
-    sheet.note("lent; layered, there follows the sum of (i + 1) x entry i of the store for i below S, modulo 2^64, or 0 where the search is refused.");
+    sheet.note("the calls of start and feed; for each search, first with the store, then with none: a line with refusal, B, width, 20 bits, division, the pattern of z");
+    sheet.note("and the bit order; a line with the counts, one with the order, and one with how many other entries of each buffer and of the store, past S where it has S,");
+    sheet.note("are no longer as lent; then, where it has S, the sum of (i + 1) x entry i of the store for i below S, modulo 2^64, else 0, as where the search is refused.");
     sheet.note(&run::note());
     sheet.case([cases.len()]);
     for (case, low_first) in &cases {
@@ -78,9 +79,15 @@ fn reverse(case: &mut Case) {
     }
 }
 
-/// The entries of the store for the layered search of width k.
+/// The entries that a store needs at width k.
 fn store_entries(block_size: usize, k: usize) -> u128 {
     (1..=1.max(k - 1)).map(|d| binomial(block_size, d)).fold(0, u128::saturating_add)
+}
+
+/// Whether a store of so many entries is long enough, and may be.
+fn suffices(block_size: usize, k: usize, entries: usize) -> bool {
+    let needed = store_entries(block_size, k);
+    needed <= 1 << 32 && needed <= entries as u128
 }
 
 /// A search with buffers and a store of just the entries needed, and `more` each.
@@ -122,24 +129,27 @@ fn refused(draws: &mut Draws) -> Vec<Case> {
         bad.push(Sampler { taken, ..returned });
     }
     let mut searches: Vec<Search> = bad.iter().map(|sampler| Search { sampler: Some(*sampler), ..good.clone() }).collect();
-    // 4 before 2, 3, 6 and 7.
+    // 4 before 2, 3 and 7, with stores of any length.
     for (k, bins, store) in [(0, 5, 16), (21, 5, 16), (9, 600, 5000), (3, 8, 1), (3, 7, 1000), (3, 7, 1)] {
         searches.push(Search { stretch: None, k, bins, order: bins, store, sampler: Some(bad[6]) });
     }
-    // 2 alone, and before 6 and 7; a width above both limits is refused with 2.
+    // 2 alone, and before 7; a width above both limits is refused with 2.
     for (k, bins, store) in [(0, 5, 16), (21, 300, 5000), (usize::MAX, 300, 5000), (0, 0, 0), (21, 0, 0)] {
         searches.push(Search { stretch: None, k, bins, order: bins, store, sampler: None });
     }
-    // 3 alone, and before 6 and 7.
+    // 3 alone, and before 7.
     for (k, bins, store) in [(9, 600, 5000), (20, 600, 5000), (9, 600, 100), (9, 511, 5000), (9, 0, 0)] {
         searches.push(Search { stretch: None, k, bins, order: bins, store, sampler: None });
     }
-    // 6: by one entry, by the last layer, or by all; then before 7. What is enough for width 7 is not for 8.
-    for (k, store) in [(8, 254), (8, 253), (8, 246), (8, 0), (7, 246), (7, 245), (2, 8), (2, 7), (1, 8), (1, 7)] {
+    // No refusal: a store of just enough entries, longer, and too short by one entry, by the last layer or by all. What is enough for width 7 is not for 8.
+    for (k, store) in [
+        (8, 254), (8, 255), (8, 300), (8, 253), (8, 246), (8, 0), (7, 246), (7, 245), (3, 36), (3, 35), (2, 8), (2, 7), (1, 8), (1, 9), (1, 7), (1, 0),
+    ] {
         searches.push(Search { stretch: None, k, bins: 257, order: 257, store, sampler: None });
     }
+    // 7, whatever the store.
     for (bins, order) in [(255, 256), (256, 255)] {
-        searches.push(Search { stretch: None, k: 8, bins, order, store: 253, sampler: None });
+        searches.extend([253, 0, 254].map(|store| Search { stretch: None, k: 8, bins, order, store, sampler: None }));
     }
     // 7: either buffer, by one entry or by all.
     for (bins, order) in [(255, 256), (256, 255), (255, 255), (0, 256), (256, 0), (256, 256)] {
@@ -152,7 +162,7 @@ fn refused(draws: &mut Draws) -> Vec<Case> {
     cases.push(Case { block_size: 8, words: 17, pieces: held, searches });
     // After a refused start.
     cases.push(Case { block_size: 12, words: 24, pieces: vec![vec![1]], searches: vec![search(8, 1, 1), Search { k: 0, ..search(8, 1, 0) }] });
-    // A sum above 2^32, where buffers that are too short keep the direct search from starting.
+    // A sum above 2^32, where buffers that are too short keep the search from starting.
     for (block_size, k) in [(128, 7), (512, 6), (4096, 4), (4096, 20)] {
         let short = Search { stretch: None, k, bins: (1 << k.min(8)) - 1, order: 300, store: 5000, sampler: None };
         cases.push(Case { block_size, words: block_size, pieces: vec![draws.bytes(3)], searches: vec![short] });
@@ -297,8 +307,7 @@ fn write_case(sheet: &mut Sheet, case: &Case, low_first: bool) {
         let taken = sampler.taken.min(1 << 16);
         let mut seen = high_first(&held, low_first).into_owned();
         seen.resize(taken, 0);
-        let direct = refusal(case, search, sampler, false);
-        let layered = refusal(case, search, sampler, true);
+        let refusal = refusal(case, search, sampler);
         let order = (low_first != sampler.turned) as usize;
         let given = [sampler.block_size, sampler.words, sampler.taken, order];
         let lengths = [first, end, search.k, search.bins, search.order, search.store];
@@ -307,14 +316,15 @@ fn write_case(sheet: &mut Sheet, case: &Case, low_first: bool) {
             Some(_) => [vec![1], given.to_vec()].concat(),
         }));
         let size = sampler.block_size / 8;
-        let blocks = if direct == 0 || layered == 0 { &seen[first * size..end * size] } else { &[] };
-        answer(sheet, search, [sampler.block_size, order], blocks, direct, 1);
-        answer(sheet, search, [sampler.block_size, order], blocks, layered, 0);
+        let blocks = if refusal == 0 { &seen[first * size..end * size] } else { &[] };
+        for entries in [search.store, 0] {
+            answer(sheet, search.k, [sampler.block_size, order], blocks, refusal, entries);
+        }
     }
 }
 
-/// The first condition that applies, in the order of the searches' refusals; 0 where none does.
-fn refusal(case: &Case, search: &Search, sampler: Sampler, layered: bool) -> usize {
+/// The first condition that applies, in the order of a search's refusals; 0 where none does.
+fn refusal(case: &Case, search: &Search, sampler: Sampler) -> usize {
     let (block_size, k) = (sampler.block_size, search.k);
     if !valid(block_size) || sampler.words != case.words || sampler.taken > capacity_bytes(block_size, case.words) {
         return 4;
@@ -328,32 +338,24 @@ fn refusal(case: &Case, search: &Search, sampler: Sampler, layered: bool) -> usi
     if k > block_size {
         return 3;
     }
-    let store = store_entries(block_size, k);
-    if layered && (store > 1 << 32 || (search.store as u128) < store) {
-        return 6;
-    }
     if search.bins < 1 << k || search.order < 1 << k {
         return 7;
     }
     0
 }
 
-/// What a search answers, given B and the sampler's bit order.
-fn answer(sheet: &mut Sheet, search: &Search, [block_size, order]: [usize; 2], blocks: &[u8], refusal: usize, threads: usize) {
-    let mut after = vec![0, 0];
-    if threads == 0 {
-        let sum = if refusal == 0 { checksum(&transform_data(blocks, block_size), block_size, search.k) } else { 0 };
-        after.extend([0, sum]);
-    }
+/// What a search of width k answers with a store of so many entries, given B and the sampler's bit order.
+fn answer(sheet: &mut Sheet, k: usize, [block_size, order]: [usize; 2], blocks: &[u8], refusal: usize, entries: usize) {
     if refusal != 0 {
         // Every field 0, no counts, no order, and all entries as lent.
         sheet.answer([refusal].into_iter().chain([0; 25]));
         sheet.answer(Vec::<usize>::new());
         sheet.answer(Vec::<usize>::new());
-        sheet.answer(after);
+        sheet.answer([0; 4]);
         return;
     }
-    let finding = bottomup(blocks, block_size, search.k, threads).unwrap();
+    let layered = suffices(block_size, k, entries);
+    let finding = bottomup(blocks, block_size, k, if layered { 0 } else { 1 }).unwrap();
     let mut line = vec![0, finding.block_size as u64, finding.bits.len() as u64];
     line.extend(finding.bits.iter().map(|bit| *bit as u64));
     line.resize(23, 0);
@@ -361,5 +363,6 @@ fn answer(sheet: &mut Sheet, search: &Search, [block_size, order]: [usize; 2], b
     sheet.answer(line);
     sheet.answer(evaluate_histogram(&finding, blocks).bins);
     sheet.answer(finding.order);
-    sheet.answer(after);
+    let sum = if layered { checksum(&transform_data(blocks, block_size), block_size, k) } else { 0 };
+    sheet.answer([0, 0, 0, sum]);
 }

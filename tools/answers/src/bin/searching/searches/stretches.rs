@@ -51,7 +51,7 @@ fn refused(draws: &mut Draws) -> Case {
         searches.push(in_stretch(first, end, good.clone()));
     }
     for (first, end) in [(2, 1), (0, 30)] {
-        // Before 2, 3, 6 and 7.
+        // Before 2, 3 and 7, with stores of any length.
         for (k, bins, store) in [(0, 5, 16), (21, 5, 16), (9, 600, 5000), (3, 8, 1), (3, 7, 1000), (3, 7, 1), (0, 0, 0)] {
             searches.push(in_stretch(first, end, Search { k, bins, order: bins, store, ..good.clone() }));
         }

@@ -1,0 +1,62 @@
+-- What a search answers does not go by the store (theorem `any-store`); the store itself goes by `storeNeeded` (`store-needed`).
+use mathlib.Core.Path.{_≡_, refl, sym, ap, _∙_}
+use mathlib.Core.Bool.{Bool, true, false, cond, _&&_}
+use mathlib.Core.List.{List, _++_}
+use mathlib.Core.Logic.{_⊎_, inl, inr}
+use Prim.Native.Nat.{ℕ, zero, suc, _^_, _≤_, _<_}
+use native.Mathlib.Omega.{arith}
+use lib.Dec.{leb}
+use lib.ListN.{length, drop}
+use borrow.Author.Tests.{le-leb, lt-leb}
+use Rattle.counting.specs.Block.{validSize}
+use Rattle.counting.specs.declared.sampling.Sampler.{Sampler}
+use Rattle.layers.specs.Store.{storeOf, storeSize, storeSuffices, storeNeeded}
+use Rattle.layers.proofs.Sizing.{needed-suffices}
+use Rattle.subsets.specs.Bits.{validWidth}
+use Rattle.subsets.proofs.Refusing.{valid-width}
+use Rattle.searching.specs.Refusal.{bottomupRefusal}
+use Rattle.searching.specs.Search.{storeAfter}
+use Rattle.searching.specs.AnyStore.{AnyStore, StoreNeeded}
+use Rattle.searching.proofs.Refusing.{SearchFree, bottomup-free, said-is}
+
+pub any-store : AnyStore
+any-store s ws first end k bins order store r store′ bins′ order′ S store₂ r₂ store₂′ bins₂′ order₂′ S₂ = (
+  S .search .answered ∙ sym (S₂ .search .answered),
+  S .search .counted ∙ sym (S₂ .search .counted),
+  S .search .ordered ∙ sym (S₂ .search .ordered),
+)
+
+-- ---- the store
+
+-- what is needed is the size, or nothing
+some-needed : (B k : ℕ) → 1 ≤ storeNeeded B k → storeNeeded B k ≡ storeSize B k
+unfolding storeNeeded
+some-needed B k h = by-test (validSize B && (validWidth k && (leb k B && leb (storeSize B k) (2 ^ 32)))) (storeSize B k) h
+  where
+    by-test : (t : Bool) (x : ℕ) → 1 ≤ cond t x 0 → cond t x 0 ≡ x
+    by-test true x h = refl
+    by-test false x h = absurd (omega arith)
+
+-- as a search that is not refused decides
+decided : (s : Sampler) (words first end k a : ℕ) → SearchFree s words first end k
+    → let need = storeNeeded (s .«block_size») k in storeSuffices (s .«block_size») k a ≡ (leb 1 need && leb need a)
+decided s words first end k a f =
+    needed-suffices (s .«block_size») k a (f .usable .valid) (valid-width k (f .width .some) (f .width .width)) (f .width .chosen)
+
+too-few : (need a : ℕ) → (need ≡ 0) ⊎ (a < need) → (leb 1 need && leb need a) ≡ false
+too-few need a (inl e) = rw e refl
+too-few zero a (inr h) = refl
+too-few (suc m) a (inr h) = simp (le-leb 1 (suc m) (omega arith), lt-leb _ _ h)
+
+pub store-needed : StoreNeeded
+store-needed s ws first end k store bins order r store′ bins′ order′ S z =
+    let q = bottomupRefusal s (length ws) first end k (length bins) (length order) in
+    let none : q ≡ 0 = sym (said-is q _ _ _ _ k r (S .search .answered)) ∙ z in
+    let free = bottomup-free s (length ws) first end k (length bins) (length order) none .search in
+    let is = decided s (length ws) first end k (length store) free in
+    record {
+      filled = λ some room.
+          let enough : storeSuffices (s .«block_size») k (length store) ≡ true = is ∙ simp (le-leb _ _ some, le-leb _ _ room) in
+          S .stored ∙ simp (none, enough, some-needed (s .«block_size») k some);
+      lent = λ few. S .stored ∙ simp (none, is ∙ too-few (storeNeeded (s .«block_size») k) (length store) few);
+    }
