@@ -15,10 +15,10 @@ pub both : (a b : Bool) → cond a b false ≡ true → (a ≡ true) × (b ≡ t
 both true b h = (refl, h)
 both false b h = let z : _≡_ {A = ℕ} 0 1 = cc in absurd (omega arith)
 
--- a refusal m that is not 0 is not what was answered
-not-refused : (m : ℕ) (t : Bool) (x : ℕ) → 0 < m → cond t x m ≡ 0 → (t ≡ true) × (x ≡ 0)
-not-refused m true x pos h = (refl, h)
-not-refused m false x pos h = absurd (omega arith)
+-- a test that gives a refusal m was passed
+pub passed : (t : Bool) (x m : ℕ) → 0 < m → cond t x m ≡ 0 → (t ≡ true) × (x ≡ 0)
+passed true x m pos e = (refl, e)
+passed false x m pos e = absurd (omega arith)
 
 pub record Valid (B : ℕ) : Type 0 where
   pub whole : B % 8 ≡ 0
@@ -41,9 +41,9 @@ pub record Usable (s : Sampler) (words : ℕ) : Type 0 where
 pub usable : (s : Sampler) (words : ℕ) → samplerRefusal s words ≡ 0 → Usable s words
 unfolding samplerRefusal
 usable s words h =
-    let p = not-refused 4 (validSize (s .«block_size»)) _ (omega arith) h in
-    let q = not-refused 4 (eqb (s .words) words) _ (omega arith) (p .1) in
-    let r = not-refused 4 (leb (s .taken) (capacityBytes (s .«block_size») words)) 0 (omega arith) (q .1) in
+    let p = passed (validSize (s .«block_size»)) _ 4 (omega arith) h in
+    let q = passed (eqb (s .words) words) _ 4 (omega arith) (p .1) in
+    let r = passed (leb (s .taken) (capacityBytes (s .«block_size») words)) 0 4 (omega arith) (q .1) in
     record { valid = p .0; same = eqb-true _ _ (q .0); within = leb-true _ _ (r .0) }
 
 -- .. and a piece that it can take
@@ -55,7 +55,7 @@ pub accepted : (s : Sampler) (words new : ℕ) → feedRefusal s words new ≡ 0
 unfolding feedRefusal
 accepted s words new h =
     let free = by-first (samplerRefusal s words) (cond (leb (s .taken + new) (capacityBytes (s .«block_size») words)) 0 5) h in
-    let t = not-refused 5 (leb (s .taken + new) (capacityBytes (s .«block_size») words)) 0 (omega arith) (free .1) in
+    let t = passed (leb (s .taken + new) (capacityBytes (s .«block_size») words)) 0 5 (omega arith) (free .1) in
     record { usable = usable s words (free .0); room = leb-true _ _ (t .0) }
   where
     by-test : (m x : ℕ) (t : Bool) → eqb m 0 ≡ t → cond t x m ≡ 0 → (m ≡ 0) × (x ≡ 0)

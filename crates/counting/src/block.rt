@@ -37,6 +37,14 @@ pub fn bit_value_in_block(bit: usize, low_first: bool, block: &[u8]) -> u32
     value as u32
 }
 
+// The number of a k-subset's bins.
+pub fn bin_count(k: usize) -> usize
+    requires { ⌜ k ≤ 20 ⌝ }
+    ensures { λ r. ⌜ r ≡ 2 ^ k ⌝ }
+{
+    1 << k
+}
+
 // The bin of a block: bit i of it is the block's bit bits[i].
 pub fn bits_block_eval(bits: &[u32], low_first: bool, block: &[u8]) -> u32
     requires { ⌜ length (now bits) ≤ 20 ⌝ }

@@ -19,6 +19,7 @@ use cases::printing::print;
 use cases::reading::at_most;
 use cases::reading::number;
 use cases::reading::numbers;
+use counting::block::bin_count;
 use counting::rows::multi_eval;
 use counting::rows::multi_eval_neg;
 use counting::sampling::blocks;
@@ -207,13 +208,6 @@ fn no_bins() -> [u32; 1024]
     ensures { λ r. ⌜ 1024 ≡ length r ⌝ }
 {
     [0; 1024]
-}
-
-fn bin_count(k: usize) -> usize
-    requires { ⌜ k ≤ 10 ⌝ }
-    ensures { λ r. ⌜ (r ≡ 2 ^ k) × (r ≤ 1024) ⌝ }
-{
-    1 << k
 }
 
 fn print_counted(bits: &[u32], words: &[u64], stretch: Stretch, bins: &mut [u32])

@@ -8,10 +8,10 @@ use native.Mathlib.Omega.{arith}
 use lib.Dec.{ltb}
 use lib.ListN.{length, getD}
 use borrow.Author.Tests.{ltb-true, le-leb, lt-leb}
-use Rattle.counting.proofs.Accepted.{both, valid-facts}
+use Rattle.counting.proofs.Accepted.{both, passed, valid-facts}
 use Rattle.subsets.specs.Bits.{increasing, within, bitsRefusal}
 use Rattle.searching.specs.declared.finding.Finding.{Finding}
-use Rattle.searching.proofs.Refusing.{or-first, neither, passed}
+use Rattle.searching.proofs.Refusing.{or-first, neither}
 use Rattle.judging.specs.Check.{chosen, shapeRefusal, earlyCheckRefusal, checkRefusal, checkedScratch}
 use Rattle.judging.proofs.Checking.{shaped, ordered}
 use Rattle.judging.proofs.Once.{once-permutes}

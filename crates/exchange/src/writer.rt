@@ -11,8 +11,8 @@ use crate::decimals::digits;
 use crate::decimals::listed_length;
 use crate::decimals::put_decimal;
 use crate::decimals::put_listed;
+use counting::block::bin_count;
 use judging::check::validate;
-use ranking::ranking::bin_count;
 use searching::finding::Finding;
 use subsets::bits::valid_width;
 

@@ -11,7 +11,8 @@ use Rattle.counting.specs.Sample.{total}
 use Rattle.subsets.specs.Bits.{validWidth}
 use Rattle.subsets.proofs.Refusing.{width-bounds}
 use Rattle.searching.specs.Refusal.{bufferRefusal}
-use Rattle.searching.proofs.Refusing.{or-first, neither, passed, buffer-free}
+use Rattle.counting.proofs.Accepted.{passed}
+use Rattle.searching.proofs.Refusing.{or-first, neither, buffer-free}
 use Rattle.ranking.specs.Order.{orderOf}
 use Rattle.ranking.specs.Ranking.{scoreOf}
 use Rattle.ranking.specs.declared.ranking.Ranking.{Ranking}

@@ -11,7 +11,7 @@ use Rattle.counting.specs.Sampling.{startedOf, startedWords, fedOf, fedWords}
 use Rattle.counting.specs.declared.sampling.Sampler.{Sampler}
 use Rattle.counting.specs.declared.sampling.Started.{Started}
 use Rattle.counting.specs.declared.sampling.Fed.{Fed}
-use Rattle.searching.proofs.Refusing.{passed}
+use Rattle.counting.proofs.Accepted.{passed}
 use Rattle.searching.specs.Search.{BottomupSearch}
 use Rattle.searching.specs.declared.finding.Searched.{Searched}
 use Rattle.judging.specs.Evaluation.{evaluatedOf, evaluatedScratch}

@@ -24,6 +24,7 @@ use crate::records::write_plan;
 use crate::records::write_sampler;
 use crate::single::ranking_refusal;
 use crate::single::total_of;
+use counting::block::bin_count;
 use counting::sampling::blocks;
 use counting::sampling::feed;
 use counting::sampling::start;
@@ -34,7 +35,6 @@ use judging::split::first_part;
 use judging::split::second_part;
 use judging::split::split_refusal;
 use layers::size::store_needed;
-use ranking::ranking::bin_count;
 use ranking::ranking::from_bins;
 use searching::search::bottomup;
 

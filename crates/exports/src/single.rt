@@ -4,7 +4,7 @@ ghost use Prim.Native.Nat.{_≤_};
 ghost use lib.ListN.{length, take};
 ghost use Rattle.counting.specs.Sample.{total};
 ghost use Rattle.exports.specs.Single.{rankingRefusal};
-use ranking::ranking::bin_count;
+use counting::block::bin_count;
 use searching::search::buffer_refusal;
 use subsets::bits::valid_width;
 

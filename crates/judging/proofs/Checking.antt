@@ -12,7 +12,8 @@ use Rattle.subsets.specs.Bits.{validWidth, bitsRefusal}
 use Rattle.subsets.specs.Subsets.{Subset}
 use Rattle.subsets.proofs.Refusing.{width-bounds}
 use Rattle.subsets.proofs.Testing.{accepted}
-use Rattle.searching.proofs.Refusing.{neither, passed}
+use Rattle.counting.proofs.Accepted.{passed}
+use Rattle.searching.proofs.Refusing.{neither}
 use Rattle.searching.specs.declared.finding.Finding.{Finding}
 use Rattle.judging.specs.Permutation.{eachOnce}
 use Rattle.judging.specs.Check.{chosen, limitRefusal, lengthRefusal, shapeRefusal, scratchRefusal, divisionRefusal, orderRefusal, clearedAfter, cleared}

@@ -16,7 +16,8 @@ use Rattle.scoring.specs.Halves.{part}
 use Rattle.scoring.specs.Score.{zScore}
 use Rattle.scoring.proofs.Defined.{empty-is-nan}
 use Rattle.searching.proofs.Filled.{replaced-first, replaced-rest, replaced-length}
-use Rattle.searching.proofs.Refusing.{neither, passed}
+use Rattle.counting.proofs.Accepted.{passed}
+use Rattle.searching.proofs.Refusing.{neither}
 use Rattle.subsets.proofs.Listing.{bits-below}
 use Rattle.searching.specs.declared.finding.Finding.{Finding}
 use Rattle.judging.specs.Check.{chosen, shapeRefusal, cleared}

@@ -12,8 +12,8 @@ ghost use Rattle.judging.specs.Evaluation.{positiveOf, scoreFor, earlyEv
 use crate::check::order_refusal;
 use crate::check::scratch_refusal;
 use crate::check::shape_refusal;
+use counting::block::bin_count;
 use counting::block::bits_block_eval;
-use ranking::ranking::bin_count;
 use scoring::halves::share;
 use scoring::score::z_score;
 use searching::finding::Finding;

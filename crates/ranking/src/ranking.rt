@@ -11,6 +11,7 @@ ghost use Rattle.ranking.specs.Peak.{better};
 ghost use Rattle.counting.specs.Sample.{total};
 ghost use Rattle.ranking.specs.Ranking.{Roots, scoreOf, asRanking, asPeak};
 use crate::order::order_bins;
+use counting::block::bin_count;
 use scoring::halves::half_power;
 use scoring::halves::share;
 use scoring::halves::share_by;
@@ -97,14 +98,6 @@ fn divide(bins: &[u32], order: &[u32], n: u32, k: usize, roots: &[f64]) -> Ranki
         i = division;
     }
     best
-}
-
-// The number of a k-subset's bins.
-pub fn bin_count(k: usize) -> usize
-    requires { ⌜ k ≤ 20 ⌝ }
-    ensures { λ r. ⌜ r ≡ 2 ^ k ⌝ }
-{
-    1 << k
 }
 
 // Ranks the subset of the first 2 ^ k bins, which n blocks fell into: its division and score, and its bin order in order's first 2 ^ k entries.

@@ -8,7 +8,8 @@ use lib.Dec.{eqb}
 use borrow.Author.Tests.{eqb-true}
 use Rattle.counting.specs.Block.{validSize}
 use Rattle.searching.specs.Refusal.{widthRefusal, bufferRefusal}
-use Rattle.searching.proofs.Refusing.{Width, passed, width-free, buffer-free, neither}
+use Rattle.counting.proofs.Accepted.{passed}
+use Rattle.searching.proofs.Refusing.{Width, width-free, buffer-free, neither}
 use Rattle.counting.specs.Sample.{total}
 use Rattle.replay.specs.Replay.{replayRefusal, refusedReplay, ReplayOf}
 use Rattle.replay.specs.declared.replay.Replayed.{Replayed}

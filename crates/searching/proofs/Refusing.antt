@@ -12,7 +12,7 @@ use Rattle.counting.specs.Sampling.{blocksOf, samplerRefusal}
 use Rattle.counting.specs.Stretch.{stretchOf, stretchRefusal, stretchBit, span}
 use Rattle.counting.specs.declared.sampling.Sampler.{Sampler}
 use Rattle.counting.specs.declared.stretch.Stretch.{Stretch}
-use Rattle.counting.proofs.Accepted.{Usable, usable, valid-facts, room-blocks}
+use Rattle.counting.proofs.Accepted.{passed, Usable, usable, valid-facts, room-blocks}
 use Rattle.layers.specs.Store.{storeSuffices}
 use Rattle.subsets.specs.Bits.{validWidth}
 use Rattle.subsets.proofs.Refusing.{width-bounds}
@@ -35,11 +35,6 @@ or-next r next e = rw e
 pub neither : (r next : ℕ) → orElse r next ≡ 0 → (r ≡ 0) × (next ≡ 0)
 neither zero next e = (refl, e)
 neither (suc r) next e = absurd (omega arith)
-
--- a test that gives a refusal m was passed
-pub passed : (t : Bool) (x m : ℕ) → 0 < m → cond t x m ≡ 0 → (t ≡ true) × (x ≡ 0)
-passed true x m pos e = (refl, e)
-passed false x m pos e = absurd (omega arith)
 
 pub record Width (B k : ℕ) : Type 0 where
   pub some : 1 ≤ k

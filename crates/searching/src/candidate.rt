@@ -10,13 +10,13 @@ ghost use Rattle.ranking.specs.Ranking.{Roots};
 ghost use Rattle.subsets.specs.Subsets.{Subset};
 ghost use Rattle.searching.specs.Finding.{rankingOf};
 ghost use Rattle.searching.specs.Pass.{Searchable, BufferRoom, FromStore, Ready};
+use counting::block::bin_count;
 use counting::rows::multi_eval_neg;
 use counting::stretch::Stretch;
 use counting::stretch::span;
 use layers::bins::compute_bins;
 use layers::bins::few_bins;
 use ranking::ranking::Ranking;
-use ranking::ranking::bin_count;
 use ranking::ranking::from_bins;
 
 // Ranks the bits: their counts go to the bin buffer, their bin order to the order buffer. Entries past the 2 ^ k bins stay.

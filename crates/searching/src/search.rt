@@ -13,13 +13,13 @@ use crate::finding::Searched;
 use crate::finding::marked;
 use crate::finding::refused;
 use crate::layered::brute_force;
+use counting::block::bin_count;
 use counting::sampling::Sampler;
 use counting::sampling::sampler_refusal;
 use counting::stretch::Stretch;
 use counting::stretch::stretch_of;
 use counting::stretch::stretch_refusal;
 use layers::size::store_suffices;
-use ranking::ranking::bin_count;
 use subsets::bits::valid_width;
 
 // The best k-subset of the blocks from `first` to before `end`: by layers where the store is long enough and its size at most 2^32, and the counts of the

@@ -11,7 +11,7 @@ use cases::printing::print;
 use cases::reading::at_most;
 use cases::reading::number;
 use cases::reading::numbers;
-use ranking::ranking::bin_count;
+use counting::block::bin_count;
 use ranking::ranking::fill_roots;
 use ranking::ranking::from_bins;
 

@@ -17,9 +17,9 @@ use cases::printing::end_line;
 use cases::printing::print;
 use cases::reading::at_most;
 use cases::reading::number;
+use counting::block::bin_count;
 use counting::sampling::Sampler;
 use layers::size::store_needed;
-use ranking::ranking::bin_count;
 use searching::finding::Searched;
 use searching::search::bottomup;
 

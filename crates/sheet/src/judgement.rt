@@ -9,9 +9,9 @@ use crate::lines::pattern;
 use crate::lines::put_lines;
 use crate::lines::wide;
 use crate::training::train;
+use counting::block::bin_count;
 use judging::evaluation::Score;
 use judging::evaluation::evaluate_histogram;
-use ranking::ranking::bin_count;
 use searching::finding::Finding;
 
 // The finding, and how many testing blocks are positive with what score.

@@ -1,10 +1,10 @@
--- `ranking::bin_count` meets its contract: the shift loses nothing.
+-- `block::bin_count` meets its contract: the shift loses nothing.
 use Prim.Native.Nat.{_^_, _≤_}
 use native.Mathlib.Omega.{arith}
 use lib.Pow.{pow-mono}
 use borrow.Author.Needs.{needs}
-use Rattle.ranking.proofs.ranking.bin_count.Statement.{statement}
-use Rattle.ranking.proofs.ranking.bin_count.Tie as tie
+use Rattle.counting.proofs.block.bin_count.Statement.{statement}
+use Rattle.counting.proofs.block.bin_count.Tie as tie
 
 shl-result : tie.Need-shl-result
 shl-result c = search needs

@@ -1,0 +1,5 @@
+pub mod Chance
+pub mod Entries
+pub mod Zeros
+pub mod Bracket
+pub mod Examples
