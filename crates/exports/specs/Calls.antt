@@ -14,6 +14,7 @@ use Rattle.searching.specs.Search.{answerOf, BottomupSearch}
 use Rattle.searching.specs.declared.finding.Searched.{Searched}
 use Rattle.judging.specs.Check.{checkRefusal, checkedScratch}
 use Rattle.judging.specs.Evaluation.{evaluatedOf, evaluatedScratch}
+use Rattle.chance.specs.Bracket.{bracketOf, bracketScratch}
 use Rattle.judging.specs.Plan.{planOf}
 use Rattle.judging.specs.Split.{splitRefusal, firstPart, secondPart}
 use Rattle.exchange.specs.Reader.{readText}
@@ -104,3 +105,8 @@ pub record SplitCall (raw : List ℕ) (B : ℕ) (training : Bool) (lengths : Lis
 pub record PlanCall (B size : ℕ) (plan : List ℕ) (r : ℕ) (plan′ : List ℕ) : Type 0 where
   pub made : 15 ≤ length plan → (r ≡ planOf B size .refusal) × (plan′ ≡ written (planNumbers (planOf B size)) plan)
   pub short : length plan < 15 → (r ≡ shortRecord) × (plan′ ≡ plan)
+
+-- `bracket`, both ends written; a refusal, with 0 at either end, leaves the scratch as lent
+pub record BracketCall (n c k d : ℕ) (scratch : List ℕ) (r : ℕ) (scratch′ : List ℕ) (low high : ℕ) : Type 0 where
+  pub answered : record { refusal = r; low = low; high = high } ≡ bracketOf n c k d (length scratch)
+  pub left : scratch′ ≡ bracketScratch n c k d scratch

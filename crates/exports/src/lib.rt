@@ -6,7 +6,7 @@ ghost use lib.ListN.{length};
 ghost use Rattle.layers.specs.Store.{storeNeeded};
 ghost use Rattle.subsets.specs.Rank.{rankedOf};
 ghost use Rattle.exchange.specs.Length.{longestText};
-ghost use Rattle.exports.specs.Calls.{StartCall, FeedCall, blocksCall, BottomupCall, CheckCall, EvaluateCall, WriteCall, ReadCall, SplitCall, PlanCall};
+ghost use Rattle.exports.specs.Calls.{StartCall, FeedCall, blocksCall, BottomupCall, CheckCall, EvaluateCall, WriteCall, ReadCall, SplitCall, PlanCall, BracketCall};
 ghost use Rattle.exports.specs.Single.{RankingCall};
 use crate::findings::evaluate_lent;
 use crate::findings::validate_lent;
@@ -24,6 +24,7 @@ use crate::records::write_plan;
 use crate::records::write_sampler;
 use crate::single::ranking_refusal;
 use crate::single::total_of;
+use chance::bracket::bracket;
 use counting::block::bin_count;
 use counting::sampling::blocks;
 use counting::sampling::feed;
@@ -271,4 +272,23 @@ pub extern "C" fn jimrawel_configurations(
     let planned = configurations(block_size, data_size);
     write_plan(planned, plan);
     planned.refusal
+}
+
+// Both ends of the chance of at least c positives among n blocks, each positive with probability d / 2 ^ k, times 2 ^ 40. Refusals 19, 2, 14, 7.
+#[no_mangle]
+pub extern "C" fn jimrawel_bracket(
+    n: usize,
+    c: usize,
+    k: usize,
+    d: usize,
+    scratch: &mut [u64],
+    low: &mut u64,
+    high: &mut u64,
+) -> u32
+    ensures { λ r. ⌜ BracketCall n c k d (now (scratch .entry)) r (now (scratch .exit)) (now (low .exit)) (now (high .exit)) ⌝ }
+{
+    let bracketed = bracket(n, c, k, d, scratch);
+    *low = bracketed.low;
+    *high = bracketed.high;
+    bracketed.refusal
 }

@@ -11,7 +11,10 @@ use Rattle.counting_cases.proofs.samples.print_bins.Tie as tie
 
 -- at most 2 ^ 10, as many as there are
 few : (d : tie.After-bin-count) → d .bin-count .result ≤ 1024
-few d = let h : 2 ^ length (d .before .before .args .bits .now) ≤ 2 ^ 10 = pow-mono {j = 10} (d .before .before .pre .0) in rw (d .bin-count .ensures) h
+few d =
+    let s = d .before .before .before .before in
+    let h : 2 ^ length (s .args .bits .now) ≤ 2 ^ 10 = pow-mono {j = 10} (s .pre .0 .1) in
+    rw (d .bin-count .ensures) h
 
 -- as many are lent as there are bins
 lent : (d : tie.After-bin-count) → length (take (d .bin-count .result) (d .before .no-bins .result)) ≡ d .bin-count .result
@@ -24,7 +27,7 @@ bin-count-requires : tie.Need-bin-count-requires
 bin-count-requires c κs = search needs
 
 array-borrow-prefix-bins : tie.Need-array-borrow-prefix-bins
-array-borrow-prefix-bins c = search needs
+array-borrow-prefix-bins c = omega (arith, few c)
 
 slice-aggregate-print-counted : tie.Need-slice-aggregate-print-counted
 slice-aggregate-print-counted c = sym (lent (c .before))
