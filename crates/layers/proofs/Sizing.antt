@@ -1,6 +1,6 @@
 -- The size of the store: the sum over the widths, exact up to 2^32, what a store that suffices has, and how long it must be.
 use mathlib.Core.Path.{_≡_, refl, ap, _∙_}
-use mathlib.Core.Bool.{Bool, true, false, _&&_}
+use mathlib.Core.Bool.{Bool, true, false, cond, _&&_}
 use Prim.Native.Nat.{ℕ, zero, suc, _+_, _-_, _^_, _≤_, _<_}
 use native.Mathlib.Omega.{arith}
 use native.Mathlib.Numerals.{add-one}
@@ -101,6 +101,15 @@ suffices-roomy B k a = record {
 }
 
 -- ---- how long it must be
+
+-- what is needed is the size, or nothing
+pub some-needed : (B k : ℕ) → 1 ≤ storeNeeded B k → storeNeeded B k ≡ storeSize B k
+unfolding storeNeeded
+some-needed B k h = by-test (validSize B && (validWidth k && (leb k B && leb (storeSize B k) (2 ^ 32)))) (storeSize B k) h
+  where
+    by-test : (t : Bool) (x : ℕ) → 1 ≤ cond t x 0 → cond t x 0 ≡ x
+    by-test true x h = refl
+    by-test false x h = absurd (omega arith)
 
 pub needed-suffices : NeededSuffices
 unfolding storeSuffices storeNeeded

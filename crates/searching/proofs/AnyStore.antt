@@ -1,21 +1,17 @@
 -- What a search answers does not go by the store (theorem `any-store`); the store itself goes by `storeNeeded` (`store-needed`).
-use mathlib.Core.Path.{_≡_, refl, sym, ap, _∙_}
-use mathlib.Core.Bool.{Bool, true, false, cond, _&&_}
-use mathlib.Core.List.{List, _++_}
+use mathlib.Core.Path.{_≡_, refl, sym, _∙_}
+use mathlib.Core.Bool.{true, false, _&&_}
 use mathlib.Core.Logic.{_⊎_, inl, inr}
-use Prim.Native.Nat.{ℕ, zero, suc, _^_, _≤_, _<_}
+use Prim.Native.Nat.{ℕ, zero, suc, _<_}
 use native.Mathlib.Omega.{arith}
 use lib.Dec.{leb}
-use lib.ListN.{length, drop}
+use lib.ListN.{length}
 use borrow.Author.Tests.{le-leb, lt-leb}
-use Rattle.counting.specs.Block.{validSize}
 use Rattle.counting.specs.declared.sampling.Sampler.{Sampler}
-use Rattle.layers.specs.Store.{storeOf, storeSize, storeSuffices, storeNeeded}
-use Rattle.layers.proofs.Sizing.{needed-suffices}
-use Rattle.subsets.specs.Bits.{validWidth}
+use Rattle.layers.specs.Store.{storeSuffices, storeNeeded}
+use Rattle.layers.proofs.Sizing.{some-needed, needed-suffices}
 use Rattle.subsets.proofs.Refusing.{valid-width}
 use Rattle.searching.specs.Refusal.{bottomupRefusal}
-use Rattle.searching.specs.Search.{storeAfter}
 use Rattle.searching.specs.AnyStore.{AnyStore, StoreNeeded}
 use Rattle.searching.proofs.Refusing.{SearchFree, bottomup-free, said-is}
 
@@ -27,15 +23,6 @@ any-store s ws first end k bins order store r store′ bins′ order′ S store�
 )
 
 -- ---- the store
-
--- what is needed is the size, or nothing
-some-needed : (B k : ℕ) → 1 ≤ storeNeeded B k → storeNeeded B k ≡ storeSize B k
-unfolding storeNeeded
-some-needed B k h = by-test (validSize B && (validWidth k && (leb k B && leb (storeSize B k) (2 ^ 32)))) (storeSize B k) h
-  where
-    by-test : (t : Bool) (x : ℕ) → 1 ≤ cond t x 0 → cond t x 0 ≡ x
-    by-test true x h = refl
-    by-test false x h = absurd (omega arith)
 
 -- as a search that is not refused decides
 decided : (s : Sampler) (words first end k a : ℕ) → SearchFree s words first end k
