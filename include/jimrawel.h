@@ -16,10 +16,10 @@
      applies, in the order given at the call, and 0 where there is none (enum jimrawel_refusal). jimrawel_blocks,
      jimrawel_store_needed and jimrawel_longest_text alone refuse nothing and return a number of blocks, of entries and of bytes.
    - Where a call is refused, every lent entry is as it was lent, but for three things: a record that the call writes (a sampler by
-     jimrawel_start, a finding, a rank, an evaluation, two lengths, a plan, a text's length; not a ranking) then has every number 0;
-     after 13 and 14, and after 17 of jimrawel_write_finding, the first 2^width entries of the scratch are 0; and where
-     jimrawel_read_finding has read a text and the check refuses what it says, the order begins with the text's indices. Beside 25
-     and 27 nothing at all is written.
+     jimrawel_start, a finding, a rank, an evaluation, both ends of a bracket, two lengths, a plan, a text's length; not a ranking)
+     then has every number 0; after 13, after 14 but for that of jimrawel_bracket, and after 17 of jimrawel_write_finding, the first
+     2^width entries of the scratch are 0; and where jimrawel_read_finding has read a text and the check refuses what it says, the
+     order begins with the text's indices. Beside 25 and 27 nothing at all is written.
    - Entries past those that a call writes are as lent.
 
    Records
@@ -73,17 +73,18 @@ enum jimrawel_refusal {
     JIMRAWEL_WIDTH_ABOVE_BLOCK = 3,  /* k is above B */
     JIMRAWEL_BAD_SAMPLER = 4,        /* its B is invalid, its number of words is not the lent one, or T is above capacity */
     JIMRAWEL_FULL = 5,               /* the piece would go past capacity */
-    JIMRAWEL_SHORT_BUFFER = 7,       /* bins, order or scratch have fewer than 2^k entries */
+    JIMRAWEL_SHORT_BUFFER = 7,       /* bins, order or scratch have fewer than 2^k entries; for a bracket, the scratch fewer than n + 1 */
     JIMRAWEL_FEW_BLOCKS = 8,         /* fewer than two blocks */
     JIMRAWEL_BITS_NOT_RISING = 9,    /* the bits do not strictly increase */
     JIMRAWEL_BIT_OUTSIDE = 10,       /* a bit is B or more */
     JIMRAWEL_ORDER_LENGTH = 11,      /* the order has not 2^k entries */
     JIMRAWEL_TOO_MANY = 12,          /* above 16,777,216 blocks to evaluate; for a rank, C(B, k) above 2^32 */
     JIMRAWEL_NO_PERMUTATION = 13,    /* the order does not list every bin once */
-    JIMRAWEL_BAD_DIVISION = 14,      /* the division is 0, or 2^k or more */
+    JIMRAWEL_BAD_DIVISION = 14,      /* the division, or a bracket's d, is 0, or 2^k or more */
     JIMRAWEL_BAD_TEXT = 16,          /* the text is no such object, or a number of it but a z_score is above 2^32 - 1 */
     JIMRAWEL_NO_ROOM = 17,           /* the output has fewer bytes than the text, or the order fewer entries than the text has indices */
     JIMRAWEL_BAD_STRETCH = 18,       /* first is above end, or end above the sampler's n */
+    JIMRAWEL_BAD_COUNTS = 19,        /* for a bracket, n is above 4,096 or c above n */
     JIMRAWEL_SHORT_RECORD = 25,      /* a slice has fewer numbers than the record that is read from it or written to it */
     JIMRAWEL_TOO_MANY_COUNTED = 26,  /* the counts of a ranking add up to 2^32 or more */
     JIMRAWEL_BAD_BIT_ORDER = 27      /* a sampler or a finding that is read has a bit order that is neither 0 nor 1 */
@@ -166,6 +167,17 @@ uint32_t jimrawel_validate(
 uint32_t jimrawel_evaluate_histogram(
     const uint64_t *finding, size_t finding_len, const uint32_t *order, size_t order_len, const uint8_t *bytes, size_t bytes_len,
     uint32_t *scratch, size_t scratch_len, uint64_t *evaluated, size_t evaluated_len);
+
+/* Brackets the chance of at least c positives among n blocks, each of them positive with probability d / 2^k. With a finding's division and width as d and k,
+   the blocks of an evaluation as n and its positive ones as c, this is the chance that a fair source has at least as many. Both ends are in units of 2^-40 and
+   made of whole numbers alone: the exact chance times 2^40 is at least low and at most high. With no block yet, entry 0 is 2^40; each block makes of entry j
+   (entry j x (2^k - d) + entry (j - 1) x d) / 2^k, rounded down, a missing entry being 0.
+     scratch  at least n + 1 entries; entries 0 to n after the last block are written to the first n + 1.
+     low      one number, apart from the scratch and from high; the sum of entries c to n, or 0 where refused.
+     high     one number, apart likewise; low + n (n + 3) / 2, which may be above 2^40, or 0 where refused.
+   Refusals: 19, 2, 14, 7. */
+uint32_t jimrawel_bracket(
+    size_t n, size_t c, size_t k, size_t d, uint64_t *scratch, size_t scratch_len, uint64_t *low, uint64_t *high);
 
 /* Writes a finding and its order as text: {"bits":[..],"sorted_indices":[..],"best_division":..,"block_size":..,"low_first":..}, in decimal
    digits without leading zeros and without white space, the first `width` bits alone and no z; low_first is true or false. No zero byte ends it.

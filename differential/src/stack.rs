@@ -187,6 +187,12 @@ fn judging(table: &mut Table) {
             });
         }
     }
+    for (n, k, d) in [(0, 1, 1), (4096, 1, 1), (4096, 20, 349_525)] {
+        let (mut scratch, mut low, mut high) = (vec![0; n + 1], 0, 0);
+        table.row("jimrawel_bracket", &format!("n {n}, k {k}"), move || {
+            assert_eq!(calls::bracket(black_box(n), n / 2, black_box(k), black_box(d), &mut scratch, &mut low, &mut high), 0);
+        });
+    }
     for k in [1, 20] {
         let finding = sound(&mut Draws::new(7), k);
         let (numbers, text) = (numbers(&finding), with_low_first(&to_json(&finding), false).into_bytes());

@@ -1,5 +1,6 @@
-/* A recording fed in two pieces, searched with a store and with none, its later blocks alone too, the finding evaluated on other bytes and on none, written as
-   text and read again; then a recording with the low bit first. Prints what it finds, and in how many blocks each bit is set. */
+/* A recording fed in two pieces, searched with a store and with none, its later blocks alone too, the finding evaluated on other bytes and on none, the
+   chance of as many positives bracketed, the finding written as text and read again; then a recording with the low bit first. Prints what it finds, and in how
+   many blocks each bit is set. */
 #include "../jimrawel.h"
 
 #include <inttypes.h>
@@ -10,6 +11,7 @@
 #define B 8
 #define K 2
 #define BINS (1 << K)
+#define BLOCKS 4
 
 static double score(uint64_t bits) {
     double z;
@@ -22,6 +24,15 @@ static void print_evaluated(const uint64_t *evaluated) {
     printf("positive %" PRIu64, evaluated[0]);
     if (evaluated[1] == 1) printf(", z %g\n", score(evaluated[2]));
     else printf(", no sample\n");
+}
+
+/* The chance of at least c positives among n blocks, at most BLOCKS of them, for a finding's width and division. */
+static void print_bracket(const uint64_t *finding, size_t n, size_t c) {
+    uint64_t scratch[BLOCKS + 1], low, high;
+    uint32_t refusal = jimrawel_bracket(n, c, finding[JIMRAWEL_WIDTH], finding[JIMRAWEL_DIVISION], scratch, n + 1, &low, &high);
+    printf("at least %zu of %zu: ", c, n);
+    if (refusal == JIMRAWEL_OK) printf("2^-40 times %" PRIu64 " to %" PRIu64 "\n", low, high);
+    else printf("refusal %" PRIu32 "\n", refusal);
 }
 
 static int failed(const char *what, uint32_t refusal) {
@@ -129,7 +140,7 @@ static uint32_t low_first(void) {
 
 int main(void) {
     const uint8_t training[] = {0x00, 0x00, 0xFF, 0xFF};
-    const uint8_t testing[] = {0x00, 0x80, 0xFF, 0xFF};
+    const uint8_t testing[BLOCKS] = {0x00, 0x80, 0xFF, 0xFF};
     uint64_t words[B], sampler[JIMRAWEL_SAMPLER], evaluated[JIMRAWEL_EVALUATED];
     uint32_t bins[BINS], refusal;
     struct answer found, later;
@@ -148,7 +159,9 @@ int main(void) {
             found.finding, JIMRAWEL_FINDING, found.order, BINS, testing, lengths[i], bins, BINS, evaluated, JIMRAWEL_EVALUATED);
         if (refusal != JIMRAWEL_OK) return failed("evaluation", refusal);
         print_evaluated(evaluated);
+        print_bracket(found.finding, lengths[i] / (B / 8), evaluated[0]);
     }
+    print_bracket(found.finding, BLOCKS, BLOCKS + 1);
 
     if ((refusal = exchange(found.finding, found.order)) != JIMRAWEL_OK) return failed("text", refusal);
 

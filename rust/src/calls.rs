@@ -92,6 +92,10 @@ pub fn evaluate_histogram(finding: &[u64], order: &[u32], bytes: &[u8], scratch:
     }
 }
 
+pub fn bracket(n: usize, c: usize, k: usize, d: usize, scratch: &mut [u64], low: &mut u64, high: &mut u64) -> u32 {
+    unsafe { raw::jimrawel_bracket(n, c, k, d, scratch.as_mut_ptr(), scratch.len(), low, high) }
+}
+
 pub fn write_finding(finding: &[u64], order: &[u32], scratch: &mut [u32], out: &mut [u8], length: &mut usize) -> u32 {
     unsafe {
         raw::jimrawel_write_finding(

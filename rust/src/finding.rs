@@ -1,4 +1,5 @@
 use crate::bit_order::BitOrder;
+use crate::bracket::Bracket;
 use crate::calls;
 use crate::refusal::{accepted, Refusal};
 
@@ -110,5 +111,14 @@ impl Finding {
         accepted(calls::evaluate_histogram(&self.numbers, &self.order, bytes, &mut counts, &mut numbers))?;
         let z = (numbers[1] == 1).then(|| f64::from_bits(numbers[2]));
         Ok(Evaluation { positive: numbers[0] as u32, counts, z })
+    }
+
+    /// Evaluates, and brackets the chance that a fair source has at least as many positives among as many blocks. Refused as an evaluation is, and above 4,096
+    /// blocks with [`Refusal::Counts`].
+    pub fn bracket(&self, bytes: &[u8]) -> Result<Bracket, Refusal> {
+        let Evaluation { positive, counts, .. } = self.evaluate(bytes)?;
+        // Every block is in one bin.
+        let blocks: u32 = counts.iter().sum();
+        Bracket::of(blocks as usize, positive as usize, self.bits.len(), self.division() as usize)
     }
 }

@@ -14,6 +14,9 @@
 //! assert_eq!((finding.bits(), finding.order(), finding.division(), finding.z()), (&[0, 1][..], &[0, 3, 1, 2][..], 2, 2.0));
 //! let evaluation = finding.evaluate(&[0x00, 0x80, 0xFF, 0xFF])?;
 //! assert_eq!((evaluation.positive, evaluation.z), (3, Some(1.0)));
+//! // A fair source has at least 3 of 4 with a chance between these, times 2^-40.
+//! let bracket = finding.bracket(&[0x00, 0x80, 0xFF, 0xFF])?;
+//! assert_eq!((bracket.low, bracket.high), (343_597_383_680, 343_597_383_694));
 //! let later = sampler.search_in(2..sampler.blocks(), 2)?;
 //! assert_eq!((later.bits(), later.counts(), later.division()), (&[0, 1][..], &[0, 0, 0, 2][..], 1));
 //! assert_eq!(Sampler::start(12, BitOrder::HighFirst, 64).unwrap_err(), Refusal::BlockSize);
@@ -28,6 +31,7 @@
 //! ```
 
 mod bit_order;
+mod bracket;
 pub mod calls;
 mod finding;
 mod raw;
@@ -35,6 +39,7 @@ mod refusal;
 mod sampler;
 
 pub use bit_order::BitOrder;
+pub use bracket::Bracket;
 pub use calls::store_needed;
 pub use finding::{Evaluation, Finding};
 pub use refusal::Refusal;

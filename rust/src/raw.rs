@@ -58,6 +58,16 @@ extern "C" {
         evaluated: *mut u64, evaluated_len: usize,
     ) -> u32;
 
+    pub fn jimrawel_bracket(
+        n: usize,
+        c: usize,
+        k: usize,
+        d: usize,
+        scratch: *mut u64, scratch_len: usize,
+        low: *mut u64,
+        high: *mut u64,
+    ) -> u32;
+
     pub fn jimrawel_write_finding(
         finding: *const u64, finding_len: usize,
         order: *const u32, order_len: usize,

@@ -12,7 +12,7 @@ pub enum Refusal {
     Sampler = 4,
     /// The piece would go past capacity.
     Full = 5,
-    /// A buffer is too short.
+    /// A buffer is too short, for the bins or for the n + 1 entries of a bracket.
     Buffer = 7,
     /// There are fewer than two blocks.
     FewBlocks = 8,
@@ -26,7 +26,7 @@ pub enum Refusal {
     TooMany = 12,
     /// The order does not list every bin once.
     NoPermutation = 13,
-    /// The division is 0, or the number of bins or more.
+    /// The division, or the d of a bracket, is 0, or the number of bins or more.
     Division = 14,
     /// The text is no such object, or a number of it but a z_score is above 2^32 - 1.
     Text = 16,
@@ -34,6 +34,8 @@ pub enum Refusal {
     Room = 17,
     /// The stretch ends before it begins, or after the last whole block.
     Stretch = 18,
+    /// A bracket is asked of more than 4,096 blocks, or of more positives than blocks.
+    Counts = 19,
     /// A slice is too short for its record.
     ShortRecord = 25,
     /// The counts of a ranking add up to 2^32 or more.
@@ -42,7 +44,7 @@ pub enum Refusal {
     BitOrder = 27,
 }
 
-const ALL: [Refusal; 19] = [
+const ALL: [Refusal; 20] = [
     Refusal::BlockSize,
     Refusal::Width,
     Refusal::WidthAboveBlock,
@@ -59,6 +61,7 @@ const ALL: [Refusal; 19] = [
     Refusal::Text,
     Refusal::Room,
     Refusal::Stretch,
+    Refusal::Counts,
     Refusal::ShortRecord,
     Refusal::TooManyCounted,
     Refusal::BitOrder,

@@ -1,4 +1,4 @@
-use jimrawel::{calls, plan, rank, split, store_needed, BitOrder::*, Finding, Refusal, Sampler};
+use jimrawel::{calls, plan, rank, split, store_needed, BitOrder::*, Bracket, Finding, Refusal, Sampler};
 
 #[test]
 fn pieces_are_one_recording() {
@@ -260,4 +260,106 @@ fn other_texts() {
     assert_eq!(calls::write_finding(&finding, &[0, 1, 2, 3], &mut scratch, &mut out, &mut length), Refusal::Room.number());
     assert_eq!((scratch, out, length), ([0; 4], [9; 89], 0));
     assert_eq!((calls::longest_text(0), calls::longest_text(21)), (0, 0));
+}
+
+/// What the blocks make of 2^40, entry by entry.
+fn entries_after(n: usize, k: usize, d: u128) -> Vec<u64> {
+    let mut row = vec![1_u128 << 40];
+    for _ in 0..n {
+        let next = |j: usize| (row.get(j).unwrap_or(&0) * ((1 << k) - d) + j.checked_sub(1).map_or(0, |i| row[i]) * d) >> k;
+        row = (0..=row.len()).map(next).collect();
+    }
+    row.iter().map(|&entry| entry as u64).collect()
+}
+
+/// The binomial sum lies between the ends wherever 128 bits hold it, and the scratch holds the entries.
+#[test]
+fn brackets_enclose_the_chance() {
+    for k in 1..=20 {
+        let bins = 1_u128 << k;
+        for d in [1, 2, bins / 3, bins / 2, bins - 2, bins - 1].into_iter().filter(|&d| 0 < d && d < bins) {
+            for n in 0..=86 / k {
+                let entries = entries_after(n, k, d);
+                // From all blocks positive down: C(n, c) d^c (2^k - d)^(n - c) is added at each c.
+                let (mut ways, mut exact) = (1, 0);
+                for c in (0..=n).rev() {
+                    exact += ways * d.pow(c as u32) * (bins - d).pow((n - c) as u32);
+                    ways = ways * c as u128 / (n - c + 1) as u128;
+                    let (mut scratch, mut low, mut high) = (vec![9; n + 3], 9, 9);
+                    let answer = calls::bracket(n, c, k, d as usize, &mut scratch, &mut low, &mut high);
+                    assert_eq!((answer, &scratch[..=n], &scratch[n + 1..]), (0, &entries[..], &[9, 9][..]), "n {n}, c {c}, k {k}, d {d}");
+                    assert_eq!((low, high), (entries[c..].iter().sum(), low + (n * (n + 3) / 2) as u64));
+                    assert!((low as u128) << (k * n) <= exact << 40 && exact << 40 <= (high as u128) << (k * n), "n {n}, c {c}, k {k}, d {d}");
+                }
+                assert_eq!(exact, 1 << (k * n));
+            }
+        }
+    }
+}
+
+/// Both ends by the rule in Python's whole numbers, which have the exact sum between them.
+#[test]
+fn brackets() {
+    for (n, c, k, d, low, high) in [
+        (0, 0, 1, 1, 1_099_511_627_776, 1_099_511_627_776),
+        (1, 1, 1, 1, 549_755_813_888, 549_755_813_890),
+        (3, 2, 3, 3, 347_892_350_976, 347_892_350_985),
+        (4, 2, 20, 699_051, 977_343_979_819, 977_343_979_833),
+        (10, 3, 20, 1, 0, 65),
+        (100, 37, 3, 3, 636_083_926_967, 636_083_932_117),
+        (1000, 0, 20, 699_051, 1_099_511_562_245, 1_099_512_063_745),
+        (2048, 1311, 3, 4, 0, 2_100_224),
+        (4096, 0, 20, 349_525, 1_099_511_110_995, 1_099_519_505_747),
+        (4096, 3, 20, 1, 9_109, 8_403_861),
+        (4096, 1400, 20, 349_525, 141_632_655_248, 141_641_050_000),
+        (4096, 2100, 1, 1, 59_111_301_470, 59_119_696_222),
+        (4096, 4096, 20, (1 << 20) - 1, 1_095_225_033_811, 1_095_233_428_563),
+    ] {
+        let bracket = Bracket::of(n, c, k, d).unwrap();
+        assert_eq!(bracket, Bracket { low, high }, "n {n}, c {c}, k {k}, d {d}");
+        let unit = (1_u64 << 40) as f64;
+        assert_eq!(((bracket.ends().0 * unit) as u64, (bracket.ends().1 * unit) as u64), (low, high));
+    }
+    // The numbers of an evaluation: 5 of 6 blocks are in bins 2, 0 and 3, and 4,096 blocks are the most.
+    let finding = Finding::checked(16, LowFirst, &[3, 9], &[2, 0, 3, 1], 3).unwrap();
+    let bytes = [0, 0, 8, 2, 0, 2, 8, 0, 0, 0, 0, 2, 8];
+    assert_eq!(finding.evaluate(&bytes).unwrap().positive, 5);
+    assert_eq!(finding.bracket(&bytes), Bracket::of(6, 5, 2, 3));
+    assert_eq!(finding.bracket(&bytes[..1]), Bracket::of(0, 0, 2, 3));
+    assert_eq!(finding.bracket(&[0; 8193]), Bracket::of(4096, 4096, 2, 3));
+    assert_eq!(finding.bracket(&[0; 8194]), Err(Refusal::Counts));
+}
+
+/// The first refusal that applies, with everything as lent but both ends, which are 0.
+#[test]
+fn other_brackets() {
+    let most = usize::MAX;
+    let mut scratch = [9; 4098];
+    for (n, c, k, d, room, refusal) in [
+        (4097, 0, 0, 0, 0, Refusal::Counts), (4097, 4097, 20, 1, 4098, Refusal::Counts), (1 << 32, 0, 1, 1, 4098, Refusal::Counts),
+        (most, 0, 1, 1, 4098, Refusal::Counts), (most, most, 0, 0, 0, Refusal::Counts),
+        (0, 1, 0, 0, 0, Refusal::Counts), (4096, 4097, 20, 1, 4098, Refusal::Counts), (5, 6, 21, 0, 0, Refusal::Counts), (5, most, 1, 1, 6, Refusal::Counts),
+        (4096, 4096, 0, 0, 0, Refusal::Width), (0, 0, 0, 1, 1, Refusal::Width), (5, 5, 21, 0, 0, Refusal::Width), (5, 5, 21, 1, 6, Refusal::Width),
+        (5, 5, 64, 1, 6, Refusal::Width), (5, 5, (1 << 32) + 2, 1, 6, Refusal::Width), (5, 5, most, 1, 6, Refusal::Width),
+        (5, 5, 1, 0, 0, Refusal::Division), (5, 5, 1, 2, 6, Refusal::Division), (5, 0, 20, 0, 6, Refusal::Division),
+        (5, 5, 20, 1 << 20, 5, Refusal::Division), (5, 5, 20, 1 << 20, 6, Refusal::Division), (5, 5, 20, (1 << 32) + 1, 6, Refusal::Division),
+        (5, 5, 20, most, 6, Refusal::Division),
+        (5, 5, 20, (1 << 20) - 1, 5, Refusal::Buffer), (0, 0, 1, 1, 0, Refusal::Buffer), (4096, 0, 1, 1, 4096, Refusal::Buffer),
+    ] {
+        let (mut low, mut high) = (9, 9);
+        let answer = calls::bracket(n, c, k, d, &mut scratch[..room], &mut low, &mut high);
+        assert_eq!((answer, low, high), (refusal.number(), 0, 0), "n {n}, c {c}, k {k}, d {d}, {room} entries");
+        assert_eq!(scratch, [9; 4098]);
+        // It brings a scratch that is long enough.
+        if refusal != Refusal::Buffer {
+            assert_eq!(Bracket::of(n, c, k, d), Err(refusal), "n {n}, c {c}, k {k}, d {d}");
+        }
+    }
+    for (n, c, k, d) in [(0, 0, 1, 1), (5, 5, 20, (1 << 20) - 1), (4096, 4096, 20, (1 << 20) - 1), (4096, 0, 1, 1)] {
+        let (mut low, mut high) = (9, 9);
+        assert_eq!(calls::bracket(n, c, k, d, &mut scratch[..n + 1], &mut low, &mut high), 0);
+        assert_eq!(Bracket::of(n, c, k, d), Ok(Bracket { low, high }));
+        assert!(scratch[n + 1..].iter().all(|&entry| entry == 9));
+        scratch.fill(9);
+    }
 }
