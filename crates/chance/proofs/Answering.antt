@@ -87,7 +87,7 @@ unfolding bracketOf
 encloses n c k d room r is none =
     let free : bracketRefusal n c k d room ≡ 0 = sym (ap (λ (x : Bracketed). x .refusal) is ∙ refusal-is (bracketRefusal n c k d room) n c k d) ∙ none in
     let a = accepted n c k d room free in
-    let both = brackets n c k d (a .some) (a .part) (a .within) in
+    let both = brackets n c k d (a .part) (a .within) in
     let e = is ∙ taken-is n c k d room free in
     let low : r .low ≡ lowOf n c k d = ap (λ (x : Bracketed). x .low) e in
     let high : r .high ≡ highOf n c k d = ap (λ (x : Bracketed). x .high) e in

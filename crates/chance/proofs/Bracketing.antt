@@ -209,7 +209,7 @@ chances-add-up n k d h =
 
 pub brackets : Brackets
 unfolding lowOf highOf binomialSum sumFrom
-brackets n c k d pos small h =
+brackets n c k d small h =
     let m = suc n - c in
     let all : c + m ≡ suc n = omega arith in
     let L = sumTo (λ i. held k d n (c + i)) m in

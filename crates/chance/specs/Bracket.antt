@@ -28,7 +28,7 @@ Between low high n c k d = (low * 2 ^ (k * n) ≤ 2 ^ 40 * binomialSum n c k d) 
 
 -- Theorem: the exact chance times 2 ^ 40 is at least the lower end and at most the upper one; the lower end is at most 2 ^ 40.
 abbrev pub Brackets : Type 0
-Brackets = (n c k d : ℕ) → 1 ≤ d → d < 2 ^ k → c ≤ n → Between (lowOf n c k d) (highOf n c k d) n c k d × (lowOf n c k d ≤ 2 ^ 40)
+Brackets = (n c k d : ℕ) → d < 2 ^ k → c ≤ n → Between (lowOf n c k d) (highOf n c k d) n c k d × (lowOf n c k d ≤ 2 ^ 40)
 
 -- 19: n is above 4,096 or c above n; 2: k is 0 or above 20; 14: d is 0, or 2 ^ k or more; 7: a scratch of `room` entries has fewer than n + 1
 unfoldable pub bracketRefusal : ℕ → ℕ → ℕ → ℕ → ℕ → ℕ
