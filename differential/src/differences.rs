@@ -10,7 +10,7 @@ use answers::{
 };
 use std::panic;
 
-const ROWS: [(&str, fn() -> Checked); 33] = [
+const ROWS: [(&str, fn() -> Checked); 34] = [
     ("pieces", pieces),
     ("row words", row_words),
     ("an unfinished block", unfinished_block),
@@ -30,6 +30,7 @@ const ROWS: [(&str, fn() -> Checked); 33] = [
     ("ranks of no subset", ranks_of_no_subset),
     ("counts of a ranking", counts_of_a_ranking),
     ("no sample", no_sample),
+    ("p-values", p_values),
     ("unsound findings", unsound_findings),
     ("numbers of 2^32 and more", large_numbers),
     ("entries past the width", past_the_width),
@@ -317,6 +318,18 @@ fn no_sample() -> Checked {
     let finding = Finding { block_size: 16, ..finding(&[0, 1, 2, 3], 1) };
     is("ours", ours::evaluate(&numbers(&finding), &[0, 1, 2, 3], &[255], &mut [0; 4]), (0, [0; 3]))?;
     is("the reference's z", evaluate_histogram(&finding, &[255]).z.is_nan(), true)
+}
+
+fn p_values() -> Checked {
+    let bracket = |n, c| {
+        let (mut scratch, mut low, mut high) = ([9; 4098], ours::LENT, ours::LENT);
+        let refusal = ours::bracket(n, c, 3, 3, &mut scratch, &mut low, &mut high);
+        (refusal, low, high, scratch == [9; 4098])
+    };
+    is("at least 2 of 3", bracket(3, 2), (0, 347_892_350_976, 347_892_350_985, false))?;
+    is("its exact chance", (1_u64 << 40) * 162 / 512, 347_892_350_976)?;
+    is("4,097 blocks", bracket(4097, 2), (19, 0, 0, true))?;
+    is("4 of 3", bracket(3, 4), (19, 0, 0, true))
 }
 
 fn unsound_findings() -> Checked {

@@ -1,7 +1,7 @@
 //! Our calls, with answers that hold something before each, so that what a call leaves unwritten is seen.
 
 use jimrawel::calls;
-pub use jimrawel::calls::{blocks, feed, from_bins, longest_text, start, store_needed, validate};
+pub use jimrawel::calls::{blocks, bracket, feed, from_bins, longest_text, start, store_needed, validate};
 use std::ops::Range;
 
 /// What stands in every number of an answer before.
