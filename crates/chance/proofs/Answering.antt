@@ -1,6 +1,5 @@
 -- The refusals of `bracket`: what none tells, and the answer and the scratch beside each.
 use mathlib.Core.Path.{_≡_, refl, sym, ap, ap₂, _∙_}
-use mathlib.Core.Bool.{Bool, true, false, cond}
 use mathlib.Core.List.{List}
 use Prim.Native.Nat.{ℕ, zero, suc, _^_, _≤_, _<_}
 use native.Mathlib.Omega.{arith}
@@ -13,7 +12,7 @@ use Rattle.counting.proofs.Accepted.{passed}
 use Rattle.chance.specs.Bracket.{lowOf, highOf, bracketRefusal, answerOf, scratchOf, bracketOf, bracketScratch, Encloses}
 use Rattle.chance.specs.declared.bracket.Bracketed.{Bracketed}
 use Rattle.chance.proofs.Bracketing.{brackets}
-use Rattle.chance.proofs.InPlace.{Filling}
+use Rattle.chance.proofs.Filling.{Filling}
 
 -- what a refusal of 0 tells
 pub record Accepted (n c k d room : ℕ) : Type 0 where

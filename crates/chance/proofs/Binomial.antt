@@ -6,8 +6,7 @@ use native.Mathlib.Decide.{decLt}
 use native.Mathlib.Nat.{zero-mul, sub-zero, suc-sub-suc, pow-suc, add-mul, mul-assoc, mul-right-comm}
 use Rattle.subsets.specs.Choose.{choose}
 use Rattle.subsets.proofs.Choosing.{none-beyond}
-use Rattle.chance.specs.Chance.{binomialTerm}
-use Rattle.chance.specs.Entries.{before}
+use Rattle.chance.specs.Chance.{binomialTerm, TermsByBlock}
 
 -- a term of no choice
 zeros : (b u w : ℕ) → b ≡ 0 → b * u * w ≡ 0
@@ -33,14 +32,14 @@ less-one b u q t i z = go (decLt i t)
 more-one : (a d i w : ℕ) → a * d ^ suc i * w ≡ a * d ^ i * w * d
 more-one a d i w = ap (λ (x : ℕ). a * x * w) (pow-suc d i) ∙ ap (λ (x : ℕ). x * w) (sym (mul-assoc a (d ^ i) d)) ∙ mul-right-comm (a * d ^ i) d w
 
-pub term-step : (t k d j : ℕ) → binomialTerm (suc t) k d j ≡ binomialTerm t k d j * (2 ^ k - d) + before (binomialTerm t k d) j * d
-term-step t k d zero =
+pub terms-by-block : TermsByBlock
+terms-by-block t k d zero =
     let q = 2 ^ k - d in
     let e : 1 * d ^ 0 * q ^ (suc t - 0) ≡ 1 * d ^ 0 * q ^ (t - 0) * q =
     ap (λ (x : ℕ). 1 * d ^ 0 * q ^ x) (sub-zero (suc t)) ∙ ap (λ (x : ℕ). 1 * d ^ 0 * x) (pow-suc q t)
     ∙ sym (mul-assoc (1 * d ^ 0) (q ^ t) q) ∙ ap (λ (x : ℕ). 1 * d ^ 0 * q ^ x * q) (sym (sub-zero t)) in
     omega (arith, e, zero-mul d)
-term-step t k d (suc i) =
+terms-by-block t k d (suc i) =
     let q = 2 ^ k - d in
     let a = choose t i in
     let b = choose t (suc i) in

@@ -1,46 +1,23 @@
 -- The theorem: entries, scaled by 2^(k t), against the exact row.
 use mathlib.Core.Path.{_≡_, refl, sym, ap, ap₂, _∙_}
 use mathlib.Core.List.{[], _∷_}
-use Prim.Native.Nat.{ℕ, zero, suc, _+_, _-_, _*_, _/_, _^_, _≤_, _<_}
+use Prim.Native.Nat.{ℕ, zero, suc, _+_, _-_, _*_, _^_, _≤_, _<_}
 use native.Mathlib.Omega.{arith}
-use native.Mathlib.Nat.{zero-mul, mul-zero, one-mul, mul-suc, pow-zero, add-mul, mul-add, mul-assoc, mul-comm, mul-right-comm, mul-le-mul-right, le-of-mul-le-mul-right, le-of-eq, zero-add, sub-zero}
+use native.Mathlib.Nat.{zero-mul, mul-zero, mul-suc, pow-zero, add-mul, mul-add, mul-assoc, mul-comm, mul-right-comm, mul-le-mul-right, le-of-mul-le-mul-right, le-of-eq, zero-add, sub-zero}
 use lib.Pow.{pow-add, pow-pos}
 use Rattle.counting.specs.Sample.{sumTo}
 use Rattle.counting.proofs.Counts.{sum-ext, sum-more}
-use Rattle.chance.specs.Chance.{sumFrom, binomialTerm, binomialSum, ChancesAddUp}
-use Rattle.chance.specs.Entries.{entry, before, entriesAfter}
+use Rattle.chance.specs.Chance.{sumFrom, binomialTerm, binomialSum, before, ChancesAddUp}
+use Rattle.chance.specs.Entries.{entry, entriesAfter}
 use Rattle.chance.specs.Bracket.{lowOf, roundings, highOf, Brackets}
 use Rattle.chance.proofs.Rows.{next-below, next-above, next-at, entries-step}
-use Rattle.chance.proofs.Binomial.{term-past, term-step}
-
--- ---- sums
-
-sum-scaled : (a : ℕ) (f : ℕ → ℕ) (m : ℕ) → sumTo (λ i. a * f i) m ≡ a * sumTo f m
-unfolding sumTo
-sum-scaled a f zero = sym (mul-zero a)
-sum-scaled a f (suc m) = omega (arith, sum-scaled a f m, mul-add a (sumTo f m) (f m))
-
-sum-split : (f e g : ℕ → ℕ) (P m : ℕ) → ((i : ℕ) → f i ≡ e i * P + g i) → sumTo f m ≡ sumTo e m * P + sumTo g m
-unfolding sumTo
-sum-split f e g P zero h = sym (ap (λ (x : ℕ). x + 0) (zero-mul P))
-sum-split f e g P (suc m) h = omega (arith, sum-split f e g P m h, h m, add-mul (sumTo e m) (e m) P)
-
--- the values of the next row, each of two of this one
-sum-next : (f : ℕ → ℕ) (q d m : ℕ) → sumTo (λ j. f j * q + before f j * d) (suc m) ≡ sumTo f m * (q + d) + f m * q
-unfolding sumTo
-sum-next f q d zero = omega (arith, zero-mul d, zero-mul (q + d))
-sum-next f q d (suc m) = omega (arith, sum-next f q d m, add-mul (sumTo f m) (f m) (q + d), mul-add (f m) q d)
-
--- each at most K more
-sum-above : (f g : ℕ → ℕ) (K m : ℕ) → ((j : ℕ) → g j ≤ f j + K) → sumTo g m ≤ sumTo f m + m * K
-unfolding sumTo
-sum-above f g K zero h = omega (arith, zero-mul K)
-sum-above f g K (suc m) h = omega (arith, sum-above f g K m h, h m, add-mul m 1 K, one-mul K)
+use Rattle.chance.proofs.Summing.{sum-scaled, sum-split, sum-next, sum-above}
+use Rattle.chance.proofs.Binomial.{term-past, terms-by-block}
 
 -- ---- one entry of one block
 
-turn-low : (x y z q d D P E F : ℕ) → z * D ≤ x * q + y * d → x * P ≤ E → y * P ≤ F → z * (P * D) ≤ E * q + F * d
-turn-low x y z q d D P E F h hx hy =
+next-low : (x y z q d D P E F : ℕ) → z * D ≤ x * q + y * d → x * P ≤ E → y * P ≤ F → z * (P * D) ≤ E * q + F * d
+next-low x y z q d D P E F h hx hy =
     let a : z * (P * D) ≡ z * D * P = ap (λ (w : ℕ). z * w) (mul-comm P D) ∙ sym (mul-assoc z D P) in
     omega (
       arith,
@@ -54,9 +31,9 @@ turn-low x y z q d D P E F h hx hy =
     )
 
 -- what is missing of E, the exact value
-turn-high : (x y z q d D P E F : ℕ) → x * q + y * d ≤ z * D + D → x * P ≤ E → y * P ≤ F
+next-high : (x y z q d D P E F : ℕ) → x * q + y * d ≤ z * D + D → x * P ≤ E → y * P ≤ F
     → E * q + F * d - z * (P * D) ≤ (E - x * P) * q + (F - y * P) * d + P * D
-turn-high x y z q d D P E F h hx hy =
+next-high x y z q d D P E F h hx hy =
     let a : z * (P * D) ≡ z * D * P = ap (λ (w : ℕ). z * w) (mul-comm P D) ∙ sym (mul-assoc z D P) in
     let e : x * P + (E - x * P) ≡ E = omega arith in
     let f : y * P + (F - y * P) ≡ F = omega arith in
@@ -108,7 +85,7 @@ spread a p r q d = mul-add a (p * q) (r * d) ∙ ap₂ _+_ (sym (mul-assoc a p q
 
 exact-step : (k d t j : ℕ) → exact k d (suc t) j ≡ exact k d t j * (2 ^ k - d) + before (exact k d t) j * d
 exact-step k d t j =
-    ap (λ (x : ℕ). 2 ^ 40 * x) (term-step t k d j) ∙ spread (2 ^ 40) (binomialTerm t k d j) (before (binomialTerm t k d) j) (2 ^ k - d) d
+    ap (λ (x : ℕ). 2 ^ 40 * x) (terms-by-block t k d j) ∙ spread (2 ^ 40) (binomialTerm t k d j) (before (binomialTerm t k d) j) (2 ^ k - d) d
     ∙ ap (λ (x : ℕ). exact k d t j * (2 ^ k - d) + x * d) (sym (before-scaled (2 ^ 40) (binomialTerm t k d) j))
 
 -- ---- no entry is above the exact one
@@ -129,7 +106,7 @@ unfolding entriesAfter
 entry-low k d zero j = first-low k d j
 entry-low k d (suc t) j =
     rw (scale-suc k t, exact-step k d t j)
-    (turn-low (held k d t j) (before (held k d t) j) (held k d (suc t) j) (2 ^ k - d) d (2 ^ k) (scale k t) (exact k d t j) (before (exact k d t) j)
+    (next-low (held k d t j) (before (held k d t) j) (held k d (suc t) j) (2 ^ k - d) d (2 ^ k) (scale k t) (exact k d t j) (before (exact k d t) j)
     (rw next-at (next-below k d (held k d t j) (before (held k d t) j)))
     (entry-low k d t j)
     (before-low (held k d t) (exact k d t) (scale k t) j (entry-low k d t)))
@@ -143,7 +120,7 @@ before-gap f g P (suc j) = refl
 gap-step : (k d t j : ℕ) → gap k d (suc t) j ≤ gap k d t j * (2 ^ k - d) + before (gap k d t) j * d + scale k (suc t)
 gap-step k d t j =
     rw (← before-gap (held k d t) (exact k d t) (scale k t) j, scale-suc k t, exact-step k d t j)
-    (turn-high (held k d t j) (before (held k d t) j) (held k d (suc t) j) (2 ^ k - d) d (2 ^ k) (scale k t) (exact k d t j) (before (exact k d t) j)
+    (next-high (held k d t j) (before (held k d t) j) (held k d (suc t) j) (2 ^ k - d) d (2 ^ k) (scale k t) (exact k d t j) (before (exact k d t) j)
     (rw entries-step (next-above k d (held k d t j) (before (held k d t) j)))
     (entry-low k d t j)
     (before-low (held k d t) (exact k d t) (scale k t) j (entry-low k d t)))
@@ -193,7 +170,7 @@ all-terms (suc t) k d h =
     let f = binomialTerm t k d in
     let q = 2 ^ k - d in
     let e : q + d ≡ 2 ^ k = omega arith in
-    sum-ext (binomialTerm (suc t) k d) (λ j. f j * q + before f j * d) (suc (suc t)) (λ j b. term-step t k d j)
+    sum-ext (binomialTerm (suc t) k d) (λ j. f j * q + before f j * d) (suc (suc t)) (λ j b. terms-by-block t k d j)
     ∙ sum-next f q d (suc t)
     ∙ ap₂ (λ (x y : ℕ). sumTo f (suc t) * x + y * q) e (term-past t k d (suc t) (let b : t < suc t = omega arith in b))
     ∙ ap (λ (x : ℕ). x * 2 ^ k + 0 * q) (all-terms t k d h)

@@ -9,7 +9,8 @@ use lib.ListN.{length, List·getD-eq-default}
 use lib.Pow.{pow-pos}
 use Rattle.counting.specs.Sample.{listOf}
 use Rattle.counting.proofs.Counts.{length-list, getD-list}
-use Rattle.chance.specs.Entries.{entry, before, nextEntry, nextRow, entriesAfter}
+use Rattle.chance.specs.Chance.{before}
+use Rattle.chance.specs.Entries.{entry, nextEntry, nextRow, entriesAfter}
 
 -- ---- what a block makes of two entries
 

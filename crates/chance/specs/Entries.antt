@@ -3,15 +3,11 @@ use Prim.Native.Nat.{ℕ, zero, suc, _+_, _-_, _*_, _/_, _^_}
 use mathlib.Core.List.{List, [], _∷_}
 use lib.ListN.{length, getD}
 use Rattle.counting.specs.Sample.{listOf}
+use Rattle.chance.specs.Chance.{before}
 
 -- entry j; a missing entry is 0
 abbrev pub entry : List ℕ → ℕ → ℕ
 entry row j = getD row j 0
-
--- f (j - 1); before the first it is 0
-abbrev pub before : (ℕ → ℕ) → ℕ → ℕ
-before f zero = 0
-before f (suc j) = f j
 
 -- what a block makes of an entry x and the entry y before it
 unfoldable pub nextEntry : ℕ → ℕ → ℕ → ℕ → ℕ

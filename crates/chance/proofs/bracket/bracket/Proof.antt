@@ -5,7 +5,7 @@ use native.Mathlib.Omega.{arith}
 use lib.ListN.{length}
 use borrow.Author.Needs.{needs}
 use Rattle.chance.specs.Bracket.{highOf}
-use Rattle.chance.proofs.InPlace.{fill-le, fill-low}
+use Rattle.chance.proofs.Filling.{fill-le, fill-low}
 use Rattle.chance.proofs.Answering.{Accepted, accepted, refused, taken-scratch, taken-answer}
 use Rattle.chance.proofs.bracket.bracket.Statement.{statement}
 use Rattle.chance.proofs.bracket.bracket.Tie as tie

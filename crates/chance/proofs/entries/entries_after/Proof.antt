@@ -1,12 +1,12 @@
 -- `entries::entries_after` meets its contract: after t blocks the row of t blocks stands at the start, and only zeros are outside `from` and `to`.
 use mathlib.Core.Path.{_≡_, refl, ap, _∙_}
 use mathlib.Core.List.{List, _++_}
-use Prim.Native.Nat.{ℕ, suc, _+_, _-_, _^_, _≤_, _<_}
+use Prim.Native.Nat.{ℕ, suc, _+_, _-_, _≤_, _<_}
 use native.Mathlib.Omega.{arith}
 use lib.ListN.{length, set, drop, length-set}
 use borrow.Author.Needs.{needs}
 use Rattle.chance.specs.Entries.{entriesAfter}
-use Rattle.chance.proofs.InPlace.{Filling, fill-begins, fill-more, fill-ends, Ended, ends-begin, ends-more, row-there}
+use Rattle.chance.proofs.Filling.{Filling, fill-begins, fill-more, fill-ends, Ended, ends-begin, ends-more, row-there}
 use Rattle.chance.proofs.entries.entries_after.Statement.{statement}
 use Rattle.chance.proofs.entries.entries_after.Tie as tie
 
