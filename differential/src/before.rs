@@ -108,12 +108,11 @@ fn searches(block_size: usize, k: usize, bytes: usize, searches: usize) {
     let name = format!("B {block_size}, k {k}, {bytes} bytes");
 
     compare(
-        &format!("{name}, layered"),
+        &format!("{name}, with a store"),
         searches,
-        // Two calls there, of which this one takes a store.
         &mut || {
             let (store, bins, order) = (&mut earlier_store, &mut earlier_bins, &mut earlier_order);
-            assert_eq!(calls::brute_force(&sampler, &words, 0..blocks, k, store, bins, order, &mut earlier), 0);
+            assert_eq!(calls::bottomup(&sampler, &words, 0..blocks, k, store, bins, order, &mut earlier), 0);
         },
         &mut || found = Some(ours::bottomup(&sampler, &words, 0..blocks, k, &mut store, &mut bins, &mut order)),
         &mut || expected = brute_force(&rows, block_size, k),
@@ -122,9 +121,9 @@ fn searches(block_size: usize, k: usize, bytes: usize, searches: usize) {
     assert!(store == earlier_store);
     assert_eq!(expected.take().unwrap().z.to_bits(), earlier[3]);
     compare(
-        &format!("{name}, direct"),
+        &format!("{name}, with none"),
         searches,
-        &mut || assert_eq!(calls::brute_force_threads(&sampler, &words, 0..blocks, k, &mut earlier_bins, &mut earlier_order, &mut earlier), 0),
+        &mut || assert_eq!(calls::bottomup(&sampler, &words, 0..blocks, k, &mut [], &mut earlier_bins, &mut earlier_order, &mut earlier), 0),
         &mut || found = Some(ours::bottomup(&sampler, &words, 0..blocks, k, &mut [], &mut bins, &mut order)),
         &mut || expected = brute_force_threads(&rows, block_size, k, 1),
     );
