@@ -3,13 +3,13 @@
 //! than here, its lines below say so.
 
 use crate::bench::{drawn_subsets, seconds};
-use crate::ours;
 use crate::recordings::{numbers, numbers_in, store_size};
 use answers::run::sound;
 use answers::{
     brute_force, brute_force_threads, compute_index, evaluate_histogram, to_json, transform_data, with_low_first, Draws, Finding, Histogram,
 };
-use earlier::calls;
+use earlier::calls as earlier_calls;
+use jimrawel::calls;
 use std::hint::black_box;
 
 /// The calls of that commit, of which some are not made.
@@ -78,6 +78,11 @@ fn ranks(block_size: usize, k: usize) {
     let (there, here) = drawn_subsets(block_size, k);
     let mut sums = [0; 3];
     let [before, now, reference] = &mut sums;
+    let earlier_rank = |bits: &Vec<u32>| {
+        let mut rank = 0;
+        assert_eq!(earlier_calls::compute_index(block_size, bits, &mut rank), 0);
+        rank
+    };
     let rank = |bits: &Vec<u32>| {
         let mut rank = 0;
         assert_eq!(calls::compute_index(block_size, bits, &mut rank), 0);
@@ -86,8 +91,8 @@ fn ranks(block_size: usize, k: usize) {
     compare(
         &format!("B {block_size}, k {k}, 1,000 ranks"),
         10,
-        &mut || *before = black_box(&here).iter().map(rank).sum(),
-        &mut || *now = black_box(&here).iter().map(|bits| ours::rank(block_size, bits).1).sum(),
+        &mut || *before = black_box(&here).iter().map(earlier_rank).sum(),
+        &mut || *now = black_box(&here).iter().map(rank).sum(),
         &mut || *reference = black_box(&there).iter().map(|bits| compute_index(bits, block_size)).sum(),
     );
     assert_eq!(sums, [sums[0]; 3]);
@@ -98,13 +103,13 @@ fn searches(block_size: usize, k: usize, bytes: usize, searches: usize) {
     let blocks = bytes / (block_size / 8);
     let mut words = vec![0; block_size * blocks.div_ceil(64)];
     let mut sampler = [0; 4];
-    assert_eq!(ours::start(block_size, false, &mut words, &mut sampler), 0);
-    assert_eq!(ours::feed(&mut sampler, &mut words, &data), 0);
+    assert_eq!(calls::start(block_size, false, &mut words, &mut sampler), 0);
+    assert_eq!(calls::feed(&mut sampler, &mut words, &data), 0);
     let rows = transform_data(&data, block_size);
     let (size, m) = (store_size(block_size, k).unwrap(), 1 << k);
     let (mut store, mut bins, mut order) = (vec![0_u32; size], vec![0_u32; m], vec![0_u32; m]);
     let (mut earlier_store, mut earlier_bins, mut earlier_order) = (store.clone(), bins.clone(), order.clone());
-    let (mut earlier, mut found, mut expected) = ([0; 25], None, None);
+    let (mut earlier, mut found, mut expected) = ([0; 25], [0; 25], None);
     let name = format!("B {block_size}, k {k}, {bytes} bytes");
 
     compare(
@@ -112,22 +117,22 @@ fn searches(block_size: usize, k: usize, bytes: usize, searches: usize) {
         searches,
         &mut || {
             let (store, bins, order) = (&mut earlier_store, &mut earlier_bins, &mut earlier_order);
-            assert_eq!(calls::bottomup(&sampler, &words, 0..blocks, k, store, bins, order, &mut earlier), 0);
+            assert_eq!(earlier_calls::bottomup(&sampler, &words, 0..blocks, k, store, bins, order, &mut earlier), 0);
         },
-        &mut || found = Some(ours::bottomup(&sampler, &words, 0..blocks, k, &mut store, &mut bins, &mut order)),
+        &mut || assert_eq!(calls::bottomup(&sampler, &words, 0..blocks, k, &mut store, &mut bins, &mut order, &mut found), 0),
         &mut || expected = brute_force(&rows, block_size, k),
     );
-    assert_eq!(found.take().unwrap().finding, earlier);
+    assert_eq!(found, earlier);
     assert!(store == earlier_store);
     assert_eq!(expected.take().unwrap().z.to_bits(), earlier[3]);
     compare(
         &format!("{name}, with none"),
         searches,
-        &mut || assert_eq!(calls::bottomup(&sampler, &words, 0..blocks, k, &mut [], &mut earlier_bins, &mut earlier_order, &mut earlier), 0),
-        &mut || found = Some(ours::bottomup(&sampler, &words, 0..blocks, k, &mut [], &mut bins, &mut order)),
+        &mut || assert_eq!(earlier_calls::bottomup(&sampler, &words, 0..blocks, k, &mut [], &mut earlier_bins, &mut earlier_order, &mut earlier), 0),
+        &mut || assert_eq!(calls::bottomup(&sampler, &words, 0..blocks, k, &mut [], &mut bins, &mut order, &mut found), 0),
         &mut || expected = brute_force_threads(&rows, block_size, k, 1),
     );
-    assert_eq!(found.unwrap().finding, earlier);
+    assert_eq!(found, earlier);
     assert_eq!(expected.unwrap().z.to_bits(), earlier[3]);
     assert!(bins == earlier_bins && order == earlier_order);
 }
@@ -143,12 +148,12 @@ fn feeds(block_size: usize, bytes: usize, feeds: usize) {
             &format!("B {block_size}, {bytes} bytes, feeding{name}"),
             feeds,
             &mut || {
-                assert_eq!(calls::start(block_size, low_first, &mut earlier, &mut earlier_sampler), 0);
-                assert_eq!(calls::feed(&mut earlier_sampler, &mut earlier, black_box(&data)), 0);
+                assert_eq!(earlier_calls::start(block_size, low_first, &mut earlier, &mut earlier_sampler), 0);
+                assert_eq!(earlier_calls::feed(&mut earlier_sampler, &mut earlier, black_box(&data)), 0);
             },
             &mut || {
-                assert_eq!(ours::start(block_size, low_first, &mut words, &mut sampler), 0);
-                assert_eq!(ours::feed(&mut sampler, &mut words, black_box(&data)), 0);
+                assert_eq!(calls::start(block_size, low_first, &mut words, &mut sampler), 0);
+                assert_eq!(calls::feed(&mut sampler, &mut words, black_box(&data)), 0);
             },
             &mut || drop(black_box(transform_data(black_box(&data), block_size))),
         );
@@ -170,9 +175,12 @@ fn evaluations(block_size: usize, k: usize, bytes: usize, evaluations: usize) {
             evaluations,
             &mut || {
                 let numbers = numbers_in(&finding, low_first);
-                assert_eq!(calls::evaluate_histogram(&numbers, &order, black_box(&data), &mut earlier_counts, &mut earlier), 0);
+                assert_eq!(earlier_calls::evaluate_histogram(&numbers, &order, black_box(&data), &mut earlier_counts, &mut earlier), 0);
             },
-            &mut || now = ours::evaluate(&numbers_in(&finding, low_first), &order, black_box(&data), &mut counts).1,
+            &mut || {
+                let numbers = numbers_in(&finding, low_first);
+                assert_eq!(calls::evaluate_histogram(&numbers, &order, black_box(&data), &mut counts, &mut now), 0);
+            },
             &mut || drop(black_box(evaluate_histogram(&finding, black_box(&data)))),
         );
         assert!(now == earlier && counts == earlier_counts);
@@ -184,15 +192,15 @@ fn texts(k: usize, texts: usize) {
     let finding = sound(&mut Draws::new(3), k);
     let (numbers, histogram) = (numbers(&finding), Histogram::of(&finding));
     let order: Vec<u32> = finding.order.iter().map(|&bin| bin as u32).collect();
-    let (m, room) = (1 << k, ours::longest_text(k));
+    let (m, room) = (1 << k, calls::longest_text(k));
     let (mut earlier_scratch, mut scratch) = (vec![0_u32; m], vec![0; m]);
     let (mut earlier_out, mut out) = (vec![0; room], vec![0; room]);
     let (mut earlier_length, mut length) = (0, 0);
     compare(
         &format!("a finding of width {k}, written"),
         texts,
-        &mut || assert_eq!(calls::write_finding(black_box(&numbers), &order, &mut earlier_scratch, &mut earlier_out, &mut earlier_length), 0),
-        &mut || length = ours::write(black_box(&numbers), &order, &mut scratch, &mut out).1,
+        &mut || assert_eq!(earlier_calls::write_finding(black_box(&numbers), &order, &mut earlier_scratch, &mut earlier_out, &mut earlier_length), 0),
+        &mut || assert_eq!(calls::write_finding(black_box(&numbers), &order, &mut scratch, &mut out, &mut length), 0),
         &mut || drop(black_box(black_box(&histogram).write())),
     );
     let there = to_json(&finding);
@@ -204,8 +212,8 @@ fn texts(k: usize, texts: usize) {
     compare(
         &format!("a finding of width {k}, read"),
         texts,
-        &mut || assert_eq!(calls::read_finding(black_box(text.as_bytes()), &mut earlier_order, &mut earlier_scratch, &mut earlier), 0),
-        &mut || read = ours::read(black_box(text.as_bytes()), &mut read_order, &mut scratch).1,
+        &mut || assert_eq!(earlier_calls::read_finding(black_box(text.as_bytes()), &mut earlier_order, &mut earlier_scratch, &mut earlier), 0),
+        &mut || assert_eq!(calls::read_finding(black_box(text.as_bytes()), &mut read_order, &mut scratch, &mut read), 0),
         &mut || black_box(Histogram::from_slice(black_box(there.as_bytes()))).validate(),
     );
     assert!(read == earlier && read_order == earlier_order && read_order == order);
