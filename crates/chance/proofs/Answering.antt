@@ -77,7 +77,7 @@ unfolding answerOf
 refusal-is zero n c k d = refl
 refusal-is (suc r) n c k d = refl
 
-taken-is : (n c k d room : ℕ) → bracketRefusal n c k d room ≡ 0 → bracketOf n c k d room ≡ answer 0 (lowOf n c k d) (highOf n c k d)
+pub taken-is : (n c k d room : ℕ) → bracketRefusal n c k d room ≡ 0 → bracketOf n c k d room ≡ answer 0 (lowOf n c k d) (highOf n c k d)
 unfolding bracketOf answerOf
 taken-is n c k d room e = ap (λ (x : ℕ). answerOf x n c k d) e
 

@@ -129,7 +129,7 @@ fn feed_refusal(sampler: Sampler, words: usize, new: usize) -> u32
 }
 
 // How many bytes the words can hold at a valid block size.
-fn capacity_bytes(block_size: usize, words: usize) -> usize
+pub fn capacity_bytes(block_size: usize, words: usize) -> usize
     requires { ⌜ 8 ≤ «block_size» ⌝ }
     requires { ⌜ «block_size» ≤ 4096 ⌝ }
     requires { ⌜ 8 * words < 9223372036854775808 ⌝ }

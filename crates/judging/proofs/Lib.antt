@@ -5,6 +5,8 @@ pub mod Once
 pub mod Tallying
 pub mod Evaluating
 pub mod Agreeing
+pub mod Trained
+pub mod Unrefused
 pub mod Reversing
 pub mod Splitting
 pub mod Planning

@@ -2,13 +2,13 @@
 use mathlib.Core.Path.{_≡_, refl, ap, sym, _∙_}
 use mathlib.Core.Bool.{Bool, true, false, cond}
 use mathlib.Core.List.{List}
-use Prim.Native.Nat.{ℕ, _+_, _-_, _*_, _≤_}
+use Prim.Native.Nat.{ℕ, _+_, _-_, _*_, _/_, _≤_}
 use native.Mathlib.Nat.{div-mul-le-self, mul-le-mul-right, add-mul}
 use native.Mathlib.Omega.{arith}
 use lib.Dec.{leb}
-use lib.ListN.{length, take}
-use lib.Seq.{take-add}
-use borrow.Author.Tests.{leb-true}
+use lib.ListN.{length, take, drop, length-take, length-drop}
+use lib.Seq.{take-add, length-take-le}
+use borrow.Author.Tests.{leb-true, le-leb, eq-eqb}
 use Rattle.counting.specs.Block.{validSize}
 use Rattle.counting.specs.Recording.{blockBytes, blocksIn}
 use Rattle.counting.proofs.Accepted.{Valid, valid-facts}
@@ -57,6 +57,35 @@ parts raw B training h =
     let w = blockBytes B in
     let e : f * w + (m - f) * w ≡ m * w = omega (arith, rest-bytes m f w (first-within m training), first-ends m training w) in
     simp h (sym (take-add (f * w) ((m - f) * w) raw) ∙ ap (λ (n : ℕ). take n raw) e)
+
+-- ---- the halves of a split that is not refused
+
+pub split-free : (raw : List ℕ) (B : ℕ) → validSize B ≡ true → 2 ≤ blocksIn B raw → splitRefusal raw B ≡ 0
+unfolding splitRefusal
+split-free raw B valid two = simp (valid, le-leb 2 (blocksIn B raw) two)
+
+module _ (raw : List ℕ) (B : ℕ) (ok : splitRefusal raw B ≡ 0) where
+  abbrev m : ℕ
+  m = blocksIn B raw
+
+  abbrev w : ℕ
+  w = blockBytes B
+
+  pub size-valid : validSize B ≡ true
+  unfolding splitRefusal
+  size-valid = neither (validSize B) (leb 2 m) ok .0
+
+  pub first-length : length (firstPart raw B true) ≤ m / 2 * w
+  unfolding firstPart firstBlocks
+  first-length = simp (eq-eqb _ _ ok) (omega (arith, length-take (m / 2 * w) raw))
+
+  pub second-length : length (secondPart raw B true) ≡ (m - m / 2) * w
+  unfolding secondPart firstBlocks
+  second-length =
+      let h : m / 2 ≤ m = omega arith in
+      let fits : (m - m / 2) * w ≤ length (drop (m / 2 * w) raw) =
+      omega (arith, length-drop (m / 2 * w) raw, rest-bytes m (m / 2) w h, blocks-end raw B) in
+      simp (eq-eqb _ _ ok) (length-take-le ((m - m / 2) * w) (drop (m / 2 * w) raw) fits)
 
 pub blocks-of-sixteen : BlocksOfSixteen
 unfolding validSize splitRefusal firstBlocks firstPart secondPart

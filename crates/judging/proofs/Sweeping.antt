@@ -110,11 +110,11 @@ sizes-of B v =
     rw (from-first B v)
     (omega (arith, r .few), (omega arith, omega arith, rising-from 9 (afterEight B) (suc (max B 512)) (sizesFrom 6 (max B 512) (afterEight B)) above (r .up)))
 
-pairs-are : (B bytes : ℕ) → validSize B ≡ true → planOf B bytes .pairs ≡ length (sizesOf B)
+pub pairs-are : (B bytes : ℕ) → validSize B ≡ true → planOf B bytes .pairs ≡ length (sizesOf B)
 unfolding planOf
 pairs-are B bytes valid = simp valid
 
-block-at : (B bytes : ℕ) → validSize B ≡ true → (i : ℕ) → i < length (sizesOf B) → getD (planOf B bytes .blocks) i 0 ≡ getD (sizesOf B) i 0
+pub block-at : (B bytes : ℕ) → validSize B ≡ true → (i : ℕ) → i < length (sizesOf B) → getD (planOf B bytes .blocks) i 0 ≡ getD (sizesOf B) i 0
 unfolding planOf
 block-at B bytes valid i h = simp valid (List·getD-append (sizesOf B) (replicate (7 - length (sizesOf B)) 0) 0 i h)
 

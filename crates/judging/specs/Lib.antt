@@ -3,6 +3,7 @@
 pub mod Permutation
 pub mod Check
 pub mod Evaluation
+pub mod Training
 pub mod Agreement
 pub mod Reversed
 pub mod Split

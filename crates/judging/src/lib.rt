@@ -4,3 +4,4 @@ pub mod evaluation;
 mod permutation;
 pub mod plan;
 pub mod split;
+pub mod training;

@@ -1,0 +1,28 @@
+-- `progress::lowest_of` meets its contract: each return by the tests that led there.
+use borrow.Author.Needs.{needs}
+use borrow.Author.Tests.{eq-eqb, ne-eqb, lt-ltb, le-ltb}
+use native.Mathlib.Omega.{arith}
+use Prim.Native.Nat.{_≤_}
+use Rattle.sweeping.specs.Progress.{lowestOf}
+use Rattle.sweeping.proofs.progress.lowest_of.Statement.{statement}
+use Rattle.sweeping.proofs.progress.lowest_of.Tie as tie
+
+returns : tie.Need-returns
+unfolding lowestOf
+returns c = simp (eq-eqb _ _ (c .if1 .taken))
+
+returns-2 : tie.Need-returns-2
+unfolding lowestOf
+returns-2 c =
+    let e = c .before .before .before in
+    simp (ne-eqb _ _ (e .if1 .left), lt-ltb _ _ (c .if2 .taken))
+
+returns-3 : tie.Need-returns-3
+unfolding lowestOf
+returns-3 c =
+    let d = c .before in
+    let e = d .before .before .before in
+    simp (ne-eqb _ _ (e .if1 .left), le-ltb _ _ (d .if2 .left))
+
+pub lowest-of-spec : {M : Type 1} → statement M
+lowest-of-spec = tie.close (tie.spec returns returns-2 returns-3)
