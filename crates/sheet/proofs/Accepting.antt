@@ -12,29 +12,28 @@ use lib.Seq.{length-take-le}
 use borrow.Author.Tests.{eq-eqb}
 use Rattle.counting.specs.Block.{validSize}
 use Rattle.counting.specs.Recording.{blockBytes, blocksIn}
-use Rattle.counting.proofs.Accepted.{valid-facts}
+use Rattle.counting.proofs.Accepted.{passed, valid-facts}
 use Rattle.subsets.specs.Bits.{validWidth}
 use Rattle.subsets.proofs.Refusing.{width-bounds}
 use Rattle.searching.proofs.Refusing.{neither}
-use Rattle.judging.specs.Split.{splitRefusal, firstBlocks, firstPart, secondPart}
-use Rattle.judging.proofs.Splitting.{splits, blocks-end, rest-bytes}
+use Rattle.judging.specs.Split.{splitRefusal, secondPart}
+use Rattle.judging.specs.Evaluation.{positiveIn, zIn, evaluatedOf}
+use Rattle.judging.specs.Training.{chosenOf, trainedOf, trainedOrder, Trainable}
+use Rattle.judging.specs.declared.evaluation.Score.the-variants.{Z}
+use Rattle.judging.proofs.Splitting.{splits, blocks-end, size-valid, first-length, second-length}
+use Rattle.judging.proofs.Unrefused.{chosen-subset, bits-are, finding-evaluated}
 use Rattle.sheet.specs.Columns.{line}
 use Rattle.sheet.specs.Header.{blockSizeOf, widthOf, rawOf, inputRefusal}
 use Rattle.sheet.specs.Lines.{threeLines}
-use Rattle.sheet.specs.Training.{chosenOf}
-use Rattle.sheet.specs.Judgement.{judgedOf, linesOf, Judgeable, FindingEvaluated}
+use Rattle.sheet.specs.Judgement.{judgedOf, linesOf, Judgeable}
 use Rattle.sheet.specs.Refusal.{sheetRefusal}
 use Rattle.sheet.specs.Sheet.{trainingOf, testingOf, sheetWith, sheetOf, SheetsFit}
 use Rattle.sheet.specs.declared.judgement.Judged.{Judged}
 use Rattle.sheet.proofs.Reading.{Taken, taken}
 use Rattle.sheet.proofs.Writing.{length-line, length-lines}
-use Rattle.sheet.proofs.Evaluating.{chosen-subset, bits-are, evaluated-is}
+use Rattle.sheet.proofs.Fitting.{training-fits}
 
 -- ---- the halves
-
-passed : (t : Bool) (x r : ℕ) → 0 < r → cond t x r ≡ 0 → (t ≡ true) × (x ≡ 0)
-passed true x r pos e = (refl, e)
-passed false x r pos e = absurd (omega arith)
 
 module _ (raw : List ℕ) (B : ℕ) (ok : splitRefusal raw B ≡ 0) where
   abbrev m : ℕ
@@ -43,33 +42,17 @@ module _ (raw : List ℕ) (B : ℕ) (ok : splitRefusal raw B ≡ 0) where
   abbrev w : ℕ
   w = blockBytes B
 
-  size-valid : validSize B ≡ true
-  unfolding splitRefusal
-  size-valid = let pos : 0 < 1 = omega arith in passed (validSize B) _ 1 pos ok .0
-
   half : 2 * (m / 2 * w) ≤ m * w
   half = let h : 2 * (m / 2) ≤ m = omega arith in omega (arith, mul-le-mul-right w h)
-
-  first-length : length (firstPart raw B true) ≤ m / 2 * w
-  unfolding firstPart firstBlocks
-  first-length = simp (eq-eqb _ _ ok) (omega (arith, length-take (m / 2 * w) raw))
-
-  second-length : length (secondPart raw B true) ≡ (m - m / 2) * w
-  unfolding secondPart firstBlocks
-  second-length =
-      let h : m / 2 ≤ m = omega arith in
-      let fits : (m - m / 2) * w ≤ length (drop (m / 2 * w) raw) =
-      omega (arith, length-drop (m / 2 * w) raw, rest-bytes m (m / 2) w h, blocks-end raw B) in
-      simp (eq-eqb _ _ ok) (length-take-le ((m - m / 2) * w) (drop (m / 2 * w) raw) fits)
 
   second-blocks : 1 ≤ blocksIn B (secondPart raw B true)
   second-blocks =
       let v = splits raw B ok in
       let pos : 0 < w = omega arith in
-      rw (second-length, mul-div-cancel (m - m / 2) pos) (omega arith)
+      rw (second-length raw B ok, mul-div-cancel (m - m / 2) pos) (omega arith)
 
   second-few : length (secondPart raw B true) ≤ m * w
-  second-few = let h : m - m / 2 ≤ m = omega arith in omega (arith, second-length, mul-le-mul-right w h)
+  second-few = let h : m - m / 2 ≤ m = omega arith in omega (arith, second-length raw B ok, mul-le-mul-right w h)
 
 -- ---- an input that is not refused
 
@@ -92,12 +75,20 @@ judgeable s a =
     let raw = rawOf s in
     let B = blockSizeOf s in
     let ok = a .split in
+    let ok-size = size-valid raw B ok in
     let two : 0 < 2 = omega arith in
     let room : 2 ^ widthOf s ≤ 2 ^ 8 = pow-le-pow-right two (a .taken .width) in
     let bins : 2 ^ widthOf s ≤ 256 = omega arith in
     let few : length (trainingOf s) ≤ 4096 = omega (arith, first-length raw B ok, half raw B ok, blocks-end raw B, a .taken .raw) in
     record {
-      trainable = record { valid = size-valid raw B ok; block = a .taken .block; some = a .some; width = a .taken .width; few = few; room = (bins, bins) };
+      trainable = record {
+        valid = ok-size;
+        some = a .some;
+        width = omega (arith, a .taken .width);
+        chosen = omega (arith, a .taken .width, valid-facts B ok-size .low);
+        held = training-fits B (length (trainingOf s)) ok-size (a .taken .block) few;
+        room = (bins, bins);
+      };
       some = second-blocks raw B ok;
       few = omega (arith, second-few raw B ok, blocks-end raw B, a .taken .raw);
     }
@@ -110,22 +101,16 @@ judgeable-as p q r u j = rw (p, q, r, u) j
 -- ---- its lines
 
 module _ (B k : ℕ) (training testing : List ℕ) (g : Judgeable B k training testing) where
-  low : 8 ≤ B
-  low = valid-facts B (g .trainable .valid) .low
-
-  wide : k ≤ 20
-  wide = omega (arith, g .trainable .width)
-
-  fits : k ≤ B
-  fits = omega (arith, g .trainable .width, low)
+  abbrev t : Trainable B k (length training) 576 256 256
+  t = g .trainable
 
   pub lines-are : (j : Judged) → j ≡ judgedOf B k training testing → (bits : List ℕ) → bits ≡ j .finding .bits
       → (p q : ℕ) → p ≡ toBits binary64 (j .finding .z) → q ≡ toBits binary64 (j .z)
       → threeLines (B ∷ k ∷ blocksIn B training ∷ blocksIn B testing ∷ j .finding .division ∷ j .positive ∷ []) (take k bits) (p ∷ q ∷ []) ≡ linesOf B k training testing
   unfolding linesOf judgedOf
   lines-are j e bits b p q x y =
-      let chosen : take k bits ≡ chosenOf B k training =
-      ap (take k) (b ∙ ap (λ (i : Judged). i .finding .bits) e) ∙ bits-are B k training (g .trainable .valid) (g .trainable .some) wide fits in
+      let chosen : take k bits ≡ chosenOf B false k training =
+      ap (take k) (b ∙ ap (λ (i : Judged). i .finding .bits) e) ∙ bits-are B false k training (t .valid) (t .some) (t .width) (t .chosen) in
       let left : p ≡ toBits binary64 (judgedOf B k training testing .finding .z) = x ∙ ap (λ (i : Judged). toBits binary64 (i .finding .z)) e in
       let right : q ≡ toBits binary64 (judgedOf B k training testing .z) = y ∙ ap (λ (i : Judged). toBits binary64 (i .z)) e in
       λ i. threeLines (B ∷ k ∷ blocksIn B training ∷ blocksIn B testing ∷ e i .finding .division ∷ e i .positive ∷ []) (chosen i) (left i ∷ right i ∷ [])
@@ -133,14 +118,17 @@ module _ (B k : ℕ) (training testing : List ℕ) (g : Judgeable B k training t
   pub lines-length : length (linesOf B k training testing) ≡ 91 + 8 * k
   unfolding linesOf
   lines-length =
-      length-lines _ (chosenOf B k training) _ refl refl
-      ∙ ap (λ (n : ℕ). 91 + 8 * n) (chosen-subset B k training (g .trainable .valid) (g .trainable .some) wide fits .size)
+      length-lines _ (chosenOf B false k training) _ refl refl
+      ∙ ap (λ (n : ℕ). 91 + 8 * n) (chosen-subset B false k training (t .valid) (t .some) (t .width) (t .chosen) .size)
 
-pub finding-evaluated : FindingEvaluated
-finding-evaluated B k training testing g =
+pub judged-evaluated : (B k : ℕ) (training testing : List ℕ) → Judgeable B k training testing
+    → let f = trainedOf B false k training in
+    let order = trainedOrder B false k training in
+    evaluatedOf f order testing 256 ≡ record { refusal = 0; positive = positiveIn f order testing; score = Z (zIn f order testing) }
+judged-evaluated B k training testing g =
     let t = g .trainable in
     let few : blocksIn B testing ≤ 16777216 = omega (arith, div-le-self (length testing) (B / 8), g .few) in
-    evaluated-is B k training (t .valid) (t .some) (wide B k training testing g) (fits B k training testing g) testing 256 (g .some) few (t .room .0)
+    finding-evaluated B false k training testing 256 (t .valid) (t .some) (t .width) (t .chosen) (g .some) few (t .room .0)
 
 -- ---- the sheet
 

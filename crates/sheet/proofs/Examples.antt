@@ -15,10 +15,10 @@ use Rattle.subsets.specs.Bits.{validWidth}
 use Rattle.searching.specs.Finding.{winnerOf}
 use Rattle.judging.specs.Split.{splitRefusal, firstBlocks, firstPart, secondPart}
 use Rattle.judging.specs.Evaluation.{positiveOf}
+use Rattle.judging.specs.Training.{chosenOf, trainedOf, trainedOrder}
 use Rattle.sheet.specs.Columns.{symbolAt, columns, fields, line}
 use Rattle.sheet.specs.Header.{digitOf, readTo, matchTo, wellFormed, inputRefusal}
 use Rattle.sheet.specs.Lines.{threeLines}
-use Rattle.sheet.specs.Training.{chosenOf, trainedOf, trainedOrder}
 use Rattle.sheet.specs.Judgement.{judgedOf, linesOf}
 use Rattle.sheet.specs.Refusal.{sheetRefusal}
 use Rattle.sheet.specs.Sheet.{sheetOf}

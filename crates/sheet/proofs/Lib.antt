@@ -1,7 +1,6 @@
 -- Laws that the functions' proofs cite.
 pub mod Writing
 pub mod Reading
-pub mod Searched
-pub mod Evaluating
+pub mod Fitting
 pub mod Accepting
 pub mod Examples

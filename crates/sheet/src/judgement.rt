@@ -8,10 +8,13 @@ ghost use Rattle.sheet.specs.Judgement.{judgedOf, linesOf, Judgeable};
 use crate::lines::pattern;
 use crate::lines::put_lines;
 use crate::lines::wide;
-use crate::training::train;
+use crate::room::bin_room;
+use crate::room::store_room;
+use crate::room::word_room;
 use counting::block::bin_count;
 use judging::evaluation::Score;
 use judging::evaluation::evaluate_histogram;
+use judging::training::train;
 use searching::finding::Finding;
 
 // The finding, and how many testing blocks are positive with what score.
@@ -51,14 +54,18 @@ pub fn put_judged(
     put_lines(out, &counts, &bits[..k], &patterns)
 }
 
-// Searches the training bytes, and evaluates what is found on the testing bytes.
+// Searches the training bytes, high bit first, and evaluates what is found on the testing bytes.
 fn judge(block_size: usize, k: usize, training: &[u8], testing: &[u8]) -> Judged
     requires { ⌜ Judgeable «block_size» k (now training) (now testing) ⌝ }
     ensures { λ r. ⌜ r ≡ judgedOf «block_size» k (now (training .entry)) (now (testing .entry)) ⌝ }
 {
-    let mut bins = room();
-    let mut order = room();
-    let finding = train(block_size, k, training, &mut bins, &mut order);
+    let mut words = word_room();
+    let mut store = store_room();
+    let mut bins = bin_room();
+    let mut order = bin_room();
+    let finding = train(
+        block_size, k, false, training, &mut words, &mut store, &mut bins, &mut order,
+    );
     let m = bin_count(k);
     let evaluated = evaluate_histogram(finding, &order[..m], testing, &mut bins);
     let score = evaluated.score;
@@ -67,13 +74,6 @@ fn judge(block_size: usize, k: usize, training: &[u8], testing: &[u8]) -> Judged
         positive: evaluated.positive,
         z: number_of(score),
     }
-}
-
-// An entry for each bin of 8 bits.
-fn room() -> [u32; 256]
-    ensures { λ r. ⌜ 256 ≡ length r ⌝ }
-{
-    [0; 256]
 }
 
 // The number that a score stands for: NaN where there is no sample, which does not arise here.

@@ -3,5 +3,5 @@ mod columns;
 mod header;
 mod judgement;
 mod lines;
+mod room;
 pub mod sheet;
-mod training;
