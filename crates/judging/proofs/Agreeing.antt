@@ -33,7 +33,7 @@ use Rattle.searching.specs.declared.finding.Finding.{Finding}
 use Rattle.judging.specs.Permutation.{eachOnce, Permutation}
 use Rattle.judging.specs.Check.{chosen, limitRefusal, lengthRefusal, shapeRefusal, scratchRefusal, divisionRefusal, orderRefusal}
 use Rattle.judging.specs.Evaluation.{countsIn, positiveOf, positiveIn, zIn, blocksRefusal, earlyEvaluationRefusal, evaluationRefusal}
-use Rattle.judging.specs.Agreement.{Agrees, FindingsAgree, AllAgree}
+use Rattle.judging.specs.Agreement.{FindingsAgree, AllAgree}
 use Rattle.judging.proofs.Once.{once-permutes}
 
 module _ (B : ℕ) (low : Bool) (held : List ℕ) (k : ℕ) (f : Finding) (bins order : List ℕ) (scratch : ℕ)

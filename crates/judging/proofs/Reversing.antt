@@ -1,10 +1,10 @@
 -- Both bit orders are checked alike, and evaluated alike on reversed bytes (theorem `all-judge-reversed`).
-use mathlib.Core.Path.{_≡_, refl, sym, ap, _∙_}
-use mathlib.Core.Bool.{Bool, true, false}
+use mathlib.Core.Path.{_≡_, refl, sym, ap}
+use mathlib.Core.Bool.{true, false}
 use mathlib.Core.List.{List}
 use Prim.Native.Nat.{ℕ, _/_}
 use lib.ListN.{length, length-map}
-use Rattle.counting.specs.Recording.{recordedBit, blocksIn, blockBytes}
+use Rattle.counting.specs.Recording.{blocksIn, blockBytes}
 use Rattle.counting.specs.Reversed.{reversed, reversedBytes}
 use Rattle.counting.specs.Sample.{countsOf}
 use Rattle.counting.proofs.Reversing.{reversal}

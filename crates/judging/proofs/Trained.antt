@@ -3,7 +3,7 @@ use mathlib.Core.Path.{_≡_, sym, ap, subst, _∙_}
 use mathlib.Core.Bool.{Bool, true, false, not}
 use mathlib.Core.List.{List, [], _∷_}
 use mathlib.Core.Logic.{_⊎_, inl, inr}
-use Prim.Native.Nat.{ℕ, zero, suc, _+_, _*_, _/_, _^_, _≤_, zero-le}
+use Prim.Native.Nat.{ℕ, _+_, _^_, _≤_, zero-le}
 use native.Mathlib.Omega.{arith}
 use lib.Dec.{T}
 use lib.Ieee.{Float, lt}
@@ -13,7 +13,6 @@ use Rattle.counting.specs.Block.{validSize}
 use Rattle.counting.specs.Recording.{capacityBytes, recording, heldFrom, heldAfter, blocksIn, recordedBit}
 use Rattle.counting.specs.Sample.{countsOf}
 use Rattle.counting.specs.Sampling.{startedOf, blocksOf}
-use Rattle.counting.proofs.Accepted.{valid-facts}
 use Rattle.ranking.specs.Order.{orderOf}
 use Rattle.ranking.specs.Ranking.{scoreOf}
 use Rattle.ranking.specs.declared.ranking.Ranking.{Ranking}

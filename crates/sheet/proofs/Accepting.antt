@@ -1,16 +1,13 @@
 -- What an input that is not refused has: halves that can be searched and judged, and three lines.
 use mathlib.Core.Path.{_≡_, refl, sym, ap, _∙_}
-use mathlib.Core.Bool.{Bool, true, false, cond}
+use mathlib.Core.Bool.{true, false}
 use mathlib.Core.List.{List, [], _∷_}
 use mathlib.Core.Logic.{_⊎_, inl, inr}
 use Prim.Native.Nat.{ℕ, zero, suc, _+_, _-_, _*_, _/_, _^_, _≤_, _<_}
 use native.Mathlib.Nat.{mul-le-mul-right, mul-div-cancel, pow-le-pow-right, div-le-self}
 use native.Mathlib.Omega.{arith}
 use lib.Ieee.{toBits, binary64}
-use lib.ListN.{length, take, drop, length-take, length-drop}
-use lib.Seq.{length-take-le}
-use borrow.Author.Tests.{eq-eqb}
-use Rattle.counting.specs.Block.{validSize}
+use lib.ListN.{length, take}
 use Rattle.counting.specs.Recording.{blockBytes, blocksIn}
 use Rattle.counting.proofs.Accepted.{passed, valid-facts}
 use Rattle.subsets.specs.Bits.{validWidth}

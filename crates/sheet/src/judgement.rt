@@ -64,7 +64,14 @@ fn judge(block_size: usize, k: usize, training: &[u8], testing: &[u8]) -> Judged
     let mut bins = bin_room();
     let mut order = bin_room();
     let finding = train(
-        block_size, k, false, training, &mut words, &mut store, &mut bins, &mut order,
+        block_size,
+        k,
+        false,
+        training,
+        &mut words,
+        &mut store,
+        &mut bins,
+        &mut order,
     );
     let m = bin_count(k);
     let evaluated = evaluate_histogram(finding, &order[..m], testing, &mut bins);

@@ -8,7 +8,6 @@ use lib.ListN.{length}
 use borrow.Author.Tests.{le-leb, lt-ltb}
 use Rattle.counting.specs.Block.{validSize}
 use Rattle.counting.specs.Recording.{recordedBit}
-use Rattle.counting.specs.Sample.{countsOf}
 use Rattle.counting.proofs.Counts.{counts-add-up}
 use Rattle.subsets.proofs.Refusing.{valid-width}
 use Rattle.chance.specs.Bracket.{bracketRefusal}

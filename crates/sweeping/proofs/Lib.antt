@@ -5,3 +5,5 @@ pub mod Judging
 pub mod Testing
 pub mod Progressing
 pub mod Answering
+pub mod Concluding
+pub mod Examples

@@ -1,14 +1,14 @@
 -- Every plan is sound: its pairs have valid block sizes and widths that fit them.
-use mathlib.Core.Path.{_≡_, refl, sym, ap, subst, _∙_}
+use mathlib.Core.Path.{_≡_, refl, sym, ap, subst}
 use mathlib.Core.Bool.{Bool, true, false, cond, _&&_}
-use mathlib.Core.List.{List, [], _∷_, map}
-use Prim.Native.Nat.{ℕ, zero, suc, _+_, _-_, _*_, _%_, _≤_, _<_, max}
+use mathlib.Core.List.{List, [], _∷_}
+use Prim.Native.Nat.{ℕ, zero, suc, _-_, _*_, _%_, _≤_, _<_, max}
 use native.Mathlib.Omega.{arith}
 use lib.Dec.{leb, ltb, eqb}
 use lib.ListN.{length, getD, replicate, length-map, List·getD-append}
-use borrow.Author.Tests.{le-leb, eq-eqb, leb-true, leb-false, eqb-true}
+use borrow.Author.Tests.{le-leb, eq-eqb, leb-true}
 use Rattle.counting.specs.Block.{validSize}
-use Rattle.counting.proofs.Accepted.{Valid, valid-facts}
+use Rattle.counting.proofs.Accepted.{valid-facts}
 use Rattle.ranking.proofs.Totals.{map-at}
 use Rattle.judging.specs.Plan.{widthFor, besidesEight, sizesFrom, sizesOf, widthsOf, planOf, Sweeps}
 use Rattle.judging.proofs.Sweeping.{sweeps, pairs-are, block-at}

@@ -2,14 +2,14 @@
 use mathlib.Core.Path.{_≡_, refl, sym, ap, subst, _∙_}
 use mathlib.Core.Bool.{Bool, true, false}
 use mathlib.Core.List.{List}
-use Prim.Native.Nat.{ℕ, suc, _-_, _*_, _/_, _^_, _≤_, _<_, min}
+use Prim.Native.Nat.{ℕ, suc, _-_, _*_, _/_, _≤_, _<_, min}
 use native.Mathlib.Nat.{mul-le-mul-right, mul-div-cancel}
 use native.Mathlib.Omega.{arith}
 use lib.Dec.{leb}
 use lib.ListN.{length, take}
 use lib.Seq.{length-take-le, take-all}
 use borrow.Author.Tests.{leb-true, leb-false}
-use Rattle.counting.specs.Recording.{blockBytes, blocksIn, capacityBytes}
+use Rattle.counting.specs.Recording.{blockBytes, blocksIn}
 use Rattle.counting.proofs.Accepted.{Valid, valid-facts}
 use Rattle.subsets.proofs.Filling.{padded-length}
 use Rattle.searching.specs.declared.finding.Finding.{Finding}

@@ -1,7 +1,7 @@
 // One pair of the plan: a search on the training half, and what its finding does on the testing half.
 ghost use mathlib.Core.Path.{_≡_};
 ghost use Prim.Native.Nat.{_^_, _≤_};
-ghost use lib.ListN.{length, take};
+ghost use lib.ListN.{length};
 ghost use Rattle.sweeping.specs.Pair.{testedPart, judgedOf, testedOf, Judgeable, Testable};
 use chance::bracket::bracket;
 use counting::block::bin_count;

@@ -5,7 +5,6 @@ ghost use Rattle.counting.specs.Block.{validSize};
 ghost use mathlib.Core.Bool.{true};
 ghost use Rattle.sweeping.specs.Pair.{Sound, testedBlocks};
 ghost use Rattle.sweeping.specs.Refusal.{roomRefusal, pairRefusal, pairsRefusal, levelRefusal, sweepRefusal};
-use counting::block::bin_count;
 use counting::sampling::capacity_bytes;
 use judging::check::scratch_refusal;
 use judging::plan::Plan;

@@ -1,7 +1,7 @@
 // The sweep, as a caller meets it.
 ghost use mathlib.Core.Path.{_≡_};
 ghost use Prim.Native.Nat.{_^_, _≤_};
-ghost use lib.ListN.{length, getD};
+ghost use lib.ListN.{length};
 ghost use Rattle.sweeping.specs.Pair.{Sizes, Sound};
 ghost use Rattle.sweeping.specs.Progress.{nextProgress, progressTo};
 ghost use Rattle.sweeping.specs.Refusal.{pairRefusal, pairsRefusal};

@@ -1,13 +1,11 @@
 -- `pair::tested_part` meets its contract: a testing half of fewer blocks is left whole.
 use borrow.Author.Needs.{needs}
 use mathlib.Core.Path.{_≡_, sym, ap, _∙_}
-use mathlib.Core.Bool.{true}
 use mathlib.Core.List.{List}
 use Prim.Native.Nat.{ℕ, _*_, _/_, _≤_}
 use native.Mathlib.Omega.{arith}
 use lib.ListN.{length, take}
 use lib.Seq.{length-take-le, take-all}
-use Rattle.judging.specs.Split.{secondPart}
 use Rattle.sweeping.specs.Pair.{testedPart}
 use Rattle.sweeping.proofs.pair.tested_part.Statement.{statement}
 use Rattle.sweeping.proofs.pair.tested_part.Tie as tie

@@ -1,8 +1,5 @@
 -- `progress::lowest_of` meets its contract: each return by the tests that led there.
-use borrow.Author.Needs.{needs}
 use borrow.Author.Tests.{eq-eqb, ne-eqb, lt-ltb, le-ltb}
-use native.Mathlib.Omega.{arith}
-use Prim.Native.Nat.{_≤_}
 use Rattle.sweeping.specs.Progress.{lowestOf}
 use Rattle.sweeping.proofs.progress.lowest_of.Statement.{statement}
 use Rattle.sweeping.proofs.progress.lowest_of.Tie as tie

@@ -2,7 +2,6 @@
 use borrow.Author.Needs.{needs}
 use mathlib.Core.Path.{ap}
 use Rattle.searching.specs.declared.finding.Searched.{Searched}
-use Rattle.sweeping.specs.declared.pair.Tested.{Tested}
 use Rattle.sweeping.proofs.progress.none.Statement.{statement}
 use Rattle.sweeping.proofs.progress.none.Tie as tie
 

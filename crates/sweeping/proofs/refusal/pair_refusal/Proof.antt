@@ -1,13 +1,13 @@
 -- `refusal::pair_refusal` meets its contract: a skipped pair is not refused, else each return with the tests that led there.
 use borrow.Author.Needs.{needs}
-use mathlib.Core.Path.{_≡_, _∙_}
+use mathlib.Core.Path.{_≡_}
 use mathlib.Core.Bool.{true}
 use Prim.Native.Nat.{_*_, _/_, _≤_, _<_}
 use native.Mathlib.Nat.{div-mul-le-self, mul-le-mul-right}
 use native.Mathlib.Omega.{arith}
 use lib.Dec.{leb}
 use borrow.Author.Tests.{le-leb, lt-leb}
-use Rattle.counting.specs.Recording.{blockBytes, capacityBytes}
+use Rattle.counting.specs.Recording.{capacityBytes}
 use Rattle.counting.proofs.Accepted.{Valid, valid-facts}
 use Rattle.judging.specs.Split.{firstBlocks}
 use Rattle.sweeping.specs.Refusal.{trainingRefusal, pairRefusal}

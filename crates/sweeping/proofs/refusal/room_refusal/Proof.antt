@@ -7,7 +7,7 @@ use native.Mathlib.Omega.{arith}
 use lib.Dec.{leb}
 use borrow.Author.Tests.{le-leb, lt-leb}
 use Rattle.searching.proofs.Refusing.{or-first}
-use Rattle.searching.specs.Refusal.{orElse, bufferRefusal}
+use Rattle.searching.specs.Refusal.{bufferRefusal}
 use Rattle.judging.specs.Check.{scratchRefusal}
 use Rattle.sweeping.specs.Pair.{testedBlocks}
 use Rattle.sweeping.specs.Refusal.{roomRefusal}

@@ -1,7 +1,7 @@
 -- `refusal::sweep_refusal` meets its contract: each return with what was not refused before.
 use borrow.Author.Needs.{needs}
 use mathlib.Core.Path.{_≡_, sym, _∙_}
-use Prim.Native.Nat.{ℕ, _≤_}
+use Prim.Native.Nat.{_≤_}
 use native.Mathlib.Omega.{arith}
 use Rattle.searching.proofs.Refusing.{or-first, or-next}
 use Rattle.sweeping.specs.Refusal.{levelRefusal, pairsRefusal, sweepRefusal}

@@ -1,15 +1,13 @@
 -- `sweep::next_progress` meets its contract: a rejection stops, a pair of fewer than two blocks is skipped, any other can be tested.
 use borrow.Author.Needs.{needs}
-use mathlib.Core.Path.{_≡_, ap, _∙_}
-use mathlib.Core.Bool.{true, false}
-use Prim.Native.Nat.{ℕ, _/_, _≤_}
+use mathlib.Core.Path.{ap, _∙_}
+use Prim.Native.Nat.{_/_, _≤_}
 use native.Mathlib.Omega.{arith}
 use lib.ListN.{length}
 use borrow.Author.Tests.{le-leb, lt-leb}
 use Rattle.counting.proofs.Accepted.{valid-facts}
 use Rattle.sweeping.specs.Progress.{counted}
 use Rattle.sweeping.specs.Sweep.{roomOf}
-use Rattle.sweeping.specs.declared.pair.Tested.{Tested}
 use Rattle.sweeping.proofs.Progressing.{stopped, skips, tests}
 use Rattle.sweeping.proofs.Refusals.{testable}
 use Rattle.sweeping.proofs.sweep.next_progress.Statement.{statement}

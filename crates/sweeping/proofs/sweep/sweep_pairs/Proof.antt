@@ -1,11 +1,11 @@
 -- `sweep::sweep_pairs` meets its contract. The loop's invariant: the progress after i pairs, and buffers as long as lent.
 use borrow.Author.Needs.{needs}
 use mathlib.Core.Path.{_≡_, refl, sym, ap, subst, _∙_}
-use Prim.Native.Nat.{ℕ, suc, _-_, _≤_, _<_, zero-le}
+use Prim.Native.Nat.{_-_, _≤_, _<_, zero-le}
 use native.Mathlib.Numerals.{add-one}
 use native.Mathlib.Omega.{arith}
 use lib.ListN.{length, getD}
-use Rattle.sweeping.specs.Pair.{pairAt, Sizes}
+use Rattle.sweeping.specs.Pair.{Sizes}
 use Rattle.sweeping.specs.Progress.{progressTo}
 use Rattle.sweeping.specs.Refusal.{pairRefusal}
 use Rattle.sweeping.specs.Sweep.{roomOf}
