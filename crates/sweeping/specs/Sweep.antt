@@ -1,6 +1,6 @@
 -- The sweep of a recording: its answer, from the recording's bytes, and the lent buffers where it is refused.
 use mathlib.Core.Path.{_≡_}
-use mathlib.Core.Bool.{Bool}
+use mathlib.Core.Bool.{Bool, cond}
 use mathlib.Core.List.{List}
 use Prim.Native.Nat.{ℕ, zero, suc, _/_}
 use lib.ListN.{length}
@@ -39,6 +39,17 @@ sweptWith (suc r) a plan low raw = refusedSweep (suc r)
 -- the sweep of a recording at the level a, in units of 2 ^ -40
 unfoldable pub sweptOf : ℕ → ℕ → Bool → List ℕ → Room → Swept
 sweptOf a B low raw room = let plan = planOf B (length raw) in sweptWith (sweepRefusal a plan (length raw) room) a plan low raw
+
+-- the verdict's number with the refusal r: 1 where a pair was rejected; 2 where none was, and no bracket reaches down below the share; else, and beside a refusal, 0
+abbrev pub numberWith : ℕ → Progress → ℕ
+numberWith zero p = cond (p .rejected) 1 (cond (p .below) 0 2)
+numberWith (suc r) p = 0
+
+-- the number that the answered verdict stands for
+unfoldable pub sweptNumber : ℕ → ℕ → Bool → List ℕ → Room → ℕ
+sweptNumber a B low raw room =
+    let plan = planOf B (length raw) in
+    numberWith (sweepRefusal a plan (length raw) room) (progressTo (shareOf a plan) plan low raw (plan .pairs))
 
 -- a lent buffer, before and after: as lent where the sweep is refused, else free
 abbrev pub LentWhereRefused : Swept → List ℕ → List ℕ → Type 0

@@ -5,7 +5,8 @@ ghost use lib.ListN.{length};
 ghost use Rattle.sweeping.specs.Pair.{Sizes, Sound};
 ghost use Rattle.sweeping.specs.Progress.{nextProgress, progressTo};
 ghost use Rattle.sweeping.specs.Refusal.{pairRefusal, pairsRefusal};
-ghost use Rattle.sweeping.specs.Sweep.{refusedSweep, answerOf, sweptOf, roomOf, LentWhereRefused};
+ghost use Rattle.sweeping.specs.Sweep.{refusedSweep, answerOf, sweptOf, sweptNumber, roomOf, LentWhereRefused};
+ghost use Rattle.sweeping.specs.Verdict.{verdictNumber};
 use crate::pair::Pair;
 use crate::pair::Tested;
 use crate::pair::test_pair;
@@ -46,6 +47,7 @@ pub fn sweep(
 ) -> Swept
     ensures { λ r. ⌜ r ≡ sweptOf level «block_size» «low_first» (now (raw .entry)) (roomOf (now (words .entry)) (now (bins .entry)) (now (order .entry)) (now (scratch .entry)) (now (entries .entry))) ⌝ }
     ensures { λ r. ⌜ LentWhereRefused r (now (words .entry)) (now (words .exit)) × LentWhereRefused r (now (store .entry)) (now (store .exit)) × LentWhereRefused r (now (bins .entry)) (now (bins .exit)) × LentWhereRefused r (now (order .entry)) (now (order .exit)) × LentWhereRefused r (now (scratch .entry)) (now (scratch .exit)) × LentWhereRefused r (now (entries .entry)) (now (entries .exit)) ⌝ }
+    ensures { λ r. ⌜ verdictNumber (r .verdict) ≡ sweptNumber level «block_size» «low_first» (now (raw .entry)) (roomOf (now (words .entry)) (now (bins .entry)) (now (order .entry)) (now (scratch .entry)) (now (entries .entry))) ⌝ }
 {
     let plan = configurations(block_size, raw.len());
     let room = Room {

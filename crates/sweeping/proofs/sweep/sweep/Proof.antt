@@ -14,7 +14,7 @@ use Rattle.sweeping.specs.declared.refusal.Room.{Room}
 use Rattle.sweeping.specs.declared.sweep.Swept.{Swept}
 use Rattle.sweeping.proofs.Plans.{sound}
 use Rattle.sweeping.proofs.Refusals.{sweep-free}
-use Rattle.sweeping.proofs.Answering.{refused-answer, taken-answer}
+use Rattle.sweeping.proofs.Answering.{refused-answer, taken-answer, answer-number}
 use Rattle.sweeping.proofs.sweep.sweep.Statement.{statement}
 use Rattle.sweeping.proofs.sweep.sweep.Tie as tie
 
@@ -55,9 +55,13 @@ returns c =
     let t = c .before in
     let d = t .before in
     let s = entry (d .before) in
-    let a = s .args in (
-      c .refused .ensures ∙ refused-answer (a .level) (a .block-size) (a .low-first) (a .raw .now) (lent s) (d .sweep-refusal .result) (refusal-is d) (t .if1 .taken),
-      ((λ h. refl), (λ h. refl), (λ h. refl), (λ h. refl), (λ h. refl), (λ h. refl)),
+    let a = s .args in
+    let answered = c .refused .ensures ∙ refused-answer (a .level) (a .block-size) (a .low-first) (a .raw .now) (lent s) (d .sweep-refusal .result) (refusal-is d) (t .if1 .taken) in (
+      answered,
+      (
+        ((λ h. refl), (λ h. refl), (λ h. refl), (λ h. refl), (λ h. refl), (λ h. refl)),
+        answer-number (a .level) (a .block-size) (a .low-first) (a .raw .now) (lent s) (c .refused .result) answered,
+      ),
     )
 
 -- what no refusal tells of the plan
@@ -109,10 +113,14 @@ returns-2 c =
     let a = s .args in
     let swept : c .answer .result ≡ answerOf (progressTo (shareOf (a .level) (d .before .configurations .result)) (d .before .configurations .result) (a .low-first) (a .raw .now) (d .before .configurations .result .pairs)) =
     c .answer .ensures ∙ ap answerOf (g .sweep-pairs .ensures) in
-    let none : (c .answer .result .refusal ≡ 0 → ⊥) → ⊥ = λ h. h (ap (λ (r : Swept). r .refusal) swept) in (
-      swept ∙ ap (λ (p : Plan). answerOf (progressTo (shareOf (a .level) p) p (a .low-first) (a .raw .now) (p .pairs))) (plan-is (d .before))
-          ∙ taken-answer (a .level) (a .block-size) (a .low-first) (a .raw .now) (lent s) (d .sweep-refusal .result) (refusal-is d) (e .if1 .left),
-      ((λ h. absurd (none h)), (λ h. absurd (none h)), (λ h. absurd (none h)), (λ h. absurd (none h)), (λ h. absurd (none h)), (λ h. absurd (none h))),
+    let none : (c .answer .result .refusal ≡ 0 → ⊥) → ⊥ = λ h. h (ap (λ (r : Swept). r .refusal) swept) in
+    let answered = swept ∙ ap (λ (p : Plan). answerOf (progressTo (shareOf (a .level) p) p (a .low-first) (a .raw .now) (p .pairs))) (plan-is (d .before))
+    ∙ taken-answer (a .level) (a .block-size) (a .low-first) (a .raw .now) (lent s) (d .sweep-refusal .result) (refusal-is d) (e .if1 .left) in (
+      answered,
+      (
+        ((λ h. absurd (none h)), (λ h. absurd (none h)), (λ h. absurd (none h)), (λ h. absurd (none h)), (λ h. absurd (none h)), (λ h. absurd (none h))),
+        answer-number (a .level) (a .block-size) (a .low-first) (a .raw .now) (lent s) (c .answer .result) answered,
+      ),
     )
 
 pub sweep-spec : {M : Type 1} → statement M
