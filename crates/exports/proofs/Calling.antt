@@ -19,11 +19,13 @@ use Rattle.judging.specs.Plan.{planOf}
 use Rattle.judging.specs.Split.{splitRefusal, firstPart, secondPart}
 use Rattle.judging.specs.declared.evaluation.Evaluated.{Evaluated}
 use Rattle.judging.specs.declared.plan.Plan.{Plan}
+use Rattle.sweeping.specs.Sweep.{sweptOf, roomOf, LentWhereRefused}
+use Rattle.sweeping.specs.declared.sweep.Swept.{Swept}
 use Rattle.exchange.specs.Exchange.{Writes, Reads}
 use Rattle.exchange.specs.declared.reader.Reading.{Reading}
 use Rattle.exchange.specs.declared.writer.Written.{Written}
-use Rattle.exports.specs.Records.{samplerNumbers, samplerOf, findingNumbers, findingRead, evaluatedNumbers, planNumbers, written, samplerUnread, searchUnread, findingUnread, evaluationUnread}
-use Rattle.exports.specs.Calls.{StartCall, FeedCall, Answered, BottomupCall, EvaluateCall, WriteCall, ReadCall, SplitCall, PlanCall}
+use Rattle.exports.specs.Records.{samplerNumbers, samplerOf, findingNumbers, findingRead, evaluatedNumbers, planNumbers, sweptNumbers, written, samplerUnread, searchUnread, findingUnread, evaluationUnread}
+use Rattle.exports.specs.Calls.{StartCall, FeedCall, Answered, BottomupCall, EvaluateCall, WriteCall, ReadCall, SplitCall, PlanCall, SweepCall}
 
 -- ---- records that can be read
 
@@ -171,6 +173,48 @@ split-made raw B training lengths first second r lengths′ room f s e w =
       );
       short = λ h. absurd (omega arith);
     }
+
+-- ---- the sweep
+
+-- the six buffers, as lent where refused
+abbrev Lent : Swept → List ℕ → List ℕ → List ℕ → List ℕ → List ℕ → List ℕ → List ℕ → List ℕ → List ℕ → List ℕ → List ℕ → List ℕ → Type 0
+Lent a words store bins order scratch entries words′ store′ bins′ order′ scratch′ entries′ =
+    LentWhereRefused a words words′
+    × LentWhereRefused a store store′
+    × LentWhereRefused a bins bins′
+    × LentWhereRefused a order order′
+    × LentWhereRefused a scratch scratch′
+    × LentWhereRefused a entries entries′
+
+pub sweep-made :
+    (raw : List ℕ) (B : ℕ) (low : Bool) (level : ℕ) (words store bins order scratch entries swept : List ℕ) (a : Swept) (words′ store′ bins′ order′ scratch′ entries′ swept′ : List ℕ)
+    → 60 ≤ length swept
+    → a ≡ sweptOf level B low raw (roomOf words bins order scratch entries)
+    → Lent a words store bins order scratch entries words′ store′ bins′ order′ scratch′ entries′
+    → swept′ ≡ written (sweptNumbers a) swept
+    → SweepCall raw B low level words store bins order scratch entries swept (a .refusal) words′ store′ bins′ order′ scratch′ entries′ swept′
+sweep-made raw B low level words store bins order scratch entries swept a words′ store′ bins′ order′ scratch′ entries′ swept′ room e d w =
+    let s : Lent (sweptOf level B low raw (roomOf words bins order scratch entries)) words store bins order scratch entries words′ store′ bins′ order′ scratch′ entries′ =
+    subst (λ (x : Swept). Lent x words store bins order scratch entries words′ store′ bins′ order′ scratch′ entries′) e d in
+    record {
+      made = λ h. (
+        ap (λ (x : Swept). x .refusal) e,
+        w ∙ ap (λ (x : Swept). written (sweptNumbers x) swept) e,
+        s .0,
+        s .1,
+        s .2,
+        s .3,
+        s .4,
+        s .5,
+      );
+      short = λ h. absurd (omega arith);
+    }
+
+pub sweep-short :
+    (raw : List ℕ) (B : ℕ) (low : Bool) (level : ℕ) (words store bins order scratch entries swept : List ℕ) → length swept < 60
+    → SweepCall raw B low level words store bins order scratch entries swept 25 words store bins order scratch entries swept
+sweep-short raw B low level words store bins order scratch entries swept h =
+    record { made = λ m. absurd (omega arith); short = λ s. (refl, refl, refl, refl, refl, refl, refl, refl) }
 
 -- ---- findings as text
 

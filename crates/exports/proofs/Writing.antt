@@ -1,13 +1,16 @@
 -- What stands in a slice after numbers were written to its front.
 use mathlib.Core.Path.{_≡_, refl, sym, ap, _∙_}
-use mathlib.Core.List.{List, [], _∷_, _++_, append-assoc}
+use mathlib.Core.List.{List, [], _∷_, _++_, append-assoc, append-nil}
 use Prim.Native.Nat.{ℕ, zero, suc, _+_, _-_, _≤_, _<_}
 use native.Mathlib.Nat.{zero-add}
 use native.Mathlib.Numerals.{add-one}
 use native.Mathlib.Omega.{arith}
 use lib.ListN.{length, set, take, drop, getD, replicate, length-append}
-use lib.Seq.{take-suc, drop-cons, drop-drop, set-at, take-at, drop-at, length-take-le}
-use Rattle.exports.specs.Records.{written}
+use lib.Seq.{take-suc, drop-cons, drop-drop, drop-length, set-at, take-at, drop-at, length-take-le}
+use borrow.Rule.Slice.PartMut.{putMid}
+use Rattle.searching.specs.declared.finding.Finding.{Finding}
+use Rattle.sweeping.specs.declared.pair.Tested.{Tested}
+use Rattle.exports.specs.Records.{orderNumber, findingNumbers, testedNumbers, written}
 
 -- one entry more of s, after p
 pub copy-next :
@@ -102,3 +105,61 @@ plan-written (x ∷ l) blocks widths a h b w =
     ∙ drop-drop (length widths) (length blocks) l
     ∙ ap (λ (n : ℕ). drop n l) (sym (length-append blocks widths)) in
     ap (λ (t : List ℕ). (t ++ widths) ++ drop (8 + length widths) (p ++ d)) first ∙ ap (λ (t : List ℕ). (p ++ widths) ++ t) rest
+
+-- the same at the place that the numbers end at
+end-more : (s l : List ℕ) (m v : ℕ) → length s ≡ m → m < length l → set (written s l) m v ≡ written (s ++ (v ∷ [])) l
+end-more s l m v e room = let h : length s < length l = omega arith in ap (λ (n : ℕ). set (written s l) n v) (sym e) ∙ one-more s l v h
+
+-- four stores behind 25 numbers
+pub four-more :
+    (s l : List ℕ) (a b c d : ℕ)
+    → length s ≡ 25
+    → 29 ≤ length l
+    → set (set (set (set (written s l) 25 a) 26 b) 27 c) 28 d ≡ written (s ++ (a ∷ b ∷ c ∷ d ∷ [])) l
+four-more s l a b c d e room =
+    let p : List ℕ = s ++ (a ∷ []) in
+    let q : List ℕ = p ++ (b ∷ []) in
+    let r : List ℕ = q ++ (c ∷ []) in
+    let ep : length p ≡ 26 = omega (arith, length-append s (a ∷ [])) in
+    let eq : length q ≡ 27 = omega (arith, length-append p (b ∷ [])) in
+    let er : length r ≡ 28 = omega (arith, length-append q (c ∷ [])) in
+    let joined : r ++ (d ∷ []) ≡ s ++ (a ∷ b ∷ c ∷ d ∷ []) = simp append-assoc in
+    ap (λ (t : List ℕ). set (set (set t 26 b) 27 c) 28 d) (end-more s l 25 a e (omega arith))
+    ∙ ap (λ (t : List ℕ). set (set t 27 c) 28 d) (end-more p l 26 b ep (omega arith))
+    ∙ ap (λ (t : List ℕ). set t 28 d) (end-more q l 27 c eq (omega arith))
+    ∙ end-more r l 28 d er (omega arith)
+    ∙ ap (λ (t : List ℕ). written t l) joined
+
+-- how many numbers a finding and a tested pair are
+pub finding-size : (f : Finding) → length (f .bits) ≡ 20 → length (findingNumbers f) ≡ 25
+finding-size f e = let n : length (f .bits ++ (orderNumber (f .«low_first») ∷ [])) ≡ length (f .bits) + 1 = length-append (f .bits) (orderNumber (f .«low_first») ∷ []) in omega arith
+
+pub tested-size : (t : Tested) → length (t .finding .bits) ≡ 20 → length (testedNumbers t) ≡ 29
+tested-size t e =
+    let n : length (testedNumbers t) ≡ length (findingNumbers (t .finding)) + 4 = length-append (findingNumbers (t .finding)) (t .blocks ∷ t .positive ∷ t .low ∷ t .high ∷ []) in
+    let f : length (findingNumbers (t .finding)) ≡ 25 = finding-size (t .finding) e in
+    omega arith
+
+-- numbers written over as many
+pub all-written : (s l : List ℕ) → length s ≡ length l → written s l ≡ s
+all-written s l e = ap (λ (n : ℕ). s ++ drop n l) e ∙ ap (λ (t : List ℕ). s ++ t) (drop-length l) ∙ append-nil s
+
+-- two stores, and two lists of 29 put after them
+pub swept-written :
+    (l best last : List ℕ) (v t : ℕ)
+    → 2 ≤ length l
+    → length best ≡ 29
+    → length last ≡ 29
+    → putMid 31 29 (putMid 2 29 (set (set l 0 v) 1 t) best) last ≡ written (v ∷ t ∷ (best ++ last)) l
+swept-written [] best last v t h b w = absurd (omega arith)
+swept-written (x ∷ []) best last v t h b w = absurd (omega arith)
+swept-written (x ∷ y ∷ l) best last v t h b w =
+    let p : List ℕ = v ∷ t ∷ best in
+    let d : List ℕ = drop 29 l in
+    let size : length p ≡ 31 = omega (arith, b) in
+    let both : 58 ≡ length (best ++ last) = omega (arith, length-append best last) in
+    let rest : drop 29 (drop 31 (p ++ d)) ≡ drop (length (best ++ last)) l =
+    ap (drop 29) (drop-at p d 31 size) ∙ drop-drop 29 29 l ∙ ap (λ (n : ℕ). drop n l) both in
+    ap (λ (z : List ℕ). z ++ (last ++ drop 29 (drop 31 (p ++ d)))) (take-at p d 31 size)
+    ∙ ap (λ (z : List ℕ). p ++ (last ++ z)) rest
+    ∙ sym (append-assoc p last (drop (length (best ++ last)) l))

@@ -17,9 +17,10 @@ use Rattle.judging.specs.Evaluation.{evaluatedOf, evaluatedScratch}
 use Rattle.chance.specs.Bracket.{bracketOf, bracketScratch}
 use Rattle.judging.specs.Plan.{planOf}
 use Rattle.judging.specs.Split.{splitRefusal, firstPart, secondPart}
+use Rattle.sweeping.specs.Sweep.{sweptOf, roomOf, LentWhereRefused}
 use Rattle.exchange.specs.Reader.{readText}
 use Rattle.exchange.specs.Exchange.{Writes, Reads, readingOf}
-use Rattle.exports.specs.Records.{samplerNumbers, samplerOf, findingNumbers, findingRead, evaluatedNumbers, planNumbers, written, shortRecord, samplerUnread, searchUnread, findingUnread, evaluationUnread}
+use Rattle.exports.specs.Records.{samplerNumbers, samplerOf, findingNumbers, findingRead, evaluatedNumbers, planNumbers, sweptNumbers, written, shortRecord, samplerUnread, searchUnread, findingUnread, evaluationUnread}
 
 -- `start`, its sampler written to the slice
 pub record StartCall (B : ℕ) (low : Bool) (ws sampler : List ℕ) (r : ℕ) (ws′ sampler′ : List ℕ) : Type 0 where
@@ -110,3 +111,27 @@ pub record PlanCall (B size : ℕ) (plan : List ℕ) (r : ℕ) (plan′ : List �
 pub record BracketCall (n c k d : ℕ) (scratch : List ℕ) (r : ℕ) (scratch′ : List ℕ) (low high : ℕ) : Type 0 where
   pub answered : record { refusal = r; low = low; high = high } ≡ bracketOf n c k d (length scratch)
   pub left : scratch′ ≡ bracketScratch n c k d scratch
+
+-- `sweep`, its 60 numbers written to the slice; the six buffers are free, and as lent where it is refused
+pub record SweepCall (raw : List ℕ) (B : ℕ) (low : Bool) (level : ℕ) (words store bins order scratch entries swept : List ℕ) (r : ℕ) (words′ store′ bins′ order′ scratch′ entries′ swept′ : List ℕ) : Type 0 where
+  pub made :
+      60 ≤ length swept
+      → let a = sweptOf level B low raw (roomOf words bins order scratch entries) in
+      (r ≡ a .refusal)
+      × (swept′ ≡ written (sweptNumbers a) swept)
+      × LentWhereRefused a words words′
+      × LentWhereRefused a store store′
+      × LentWhereRefused a bins bins′
+      × LentWhereRefused a order order′
+      × LentWhereRefused a scratch scratch′
+      × LentWhereRefused a entries entries′
+  pub short :
+      length swept < 60
+      → (r ≡ shortRecord)
+      × (swept′ ≡ swept)
+      × (words′ ≡ words)
+      × (store′ ≡ store)
+      × (bins′ ≡ bins)
+      × (order′ ≡ order)
+      × (scratch′ ≡ scratch)
+      × (entries′ ≡ entries)

@@ -13,6 +13,9 @@ use Rattle.judging.specs.declared.evaluation.Evaluated.{Evaluated}
 use Rattle.judging.specs.declared.evaluation.Score.{Score}
 use Rattle.judging.specs.declared.evaluation.Score.the-variants.{Z, NoSample}
 use Rattle.judging.specs.declared.plan.Plan.{Plan}
+use Rattle.sweeping.specs.Verdict.{verdictNumber}
+use Rattle.sweeping.specs.declared.pair.Tested.{Tested}
+use Rattle.sweeping.specs.declared.sweep.Swept.{Swept}
 
 -- a bit order: 1 where the low bit comes first, 0 where the high bit does
 abbrev pub orderNumber : Bool → ℕ
@@ -87,3 +90,11 @@ evaluatedNumbers e = e .positive ∷ scoreCase (e .score) ∷ scoreBits (e .scor
 -- a plan: the number of pairs, the seven block sizes, the seven widths
 abbrev pub planNumbers : Plan → List ℕ
 planNumbers p = p .pairs ∷ (p .blocks ++ p .widths)
+
+-- a pair that was tested: its finding's 25 numbers, the testing blocks evaluated, the positive ones, both ends of the chance
+abbrev pub testedNumbers : Tested → List ℕ
+testedNumbers t = findingNumbers (t .finding) ++ (t .blocks ∷ t .positive ∷ t .low ∷ t .high ∷ [])
+
+-- a sweep: the verdict's number, how many pairs were tested, the best pair's 29 numbers, the last one's
+abbrev pub sweptNumbers : Swept → List ℕ
+sweptNumbers s = verdictNumber (s .verdict) ∷ s .tested ∷ (testedNumbers (s .best) ++ testedNumbers (s .last))

@@ -1,12 +1,12 @@
 // The calls for hosts in other languages: numbers and slices only. A slice passes as its address and its number of entries.
-// A sampler is 4 numbers in a lent slice, a finding 25 (`specs/Records.antt`); a slice too short for its record is answered with 25, a record whose number
+// A sampler is 4 numbers in a lent slice, a finding 25, a sweep 60 (`specs/Records.antt`); a slice too short for its record is answered with 25, a record whose number
 // for the bit order is neither 0 nor 1 with 27, and nothing is written.
 ghost use mathlib.Core.Path.{_≡_};
 ghost use lib.ListN.{length};
 ghost use Rattle.layers.specs.Store.{storeNeeded};
 ghost use Rattle.subsets.specs.Rank.{rankedOf};
 ghost use Rattle.exchange.specs.Length.{longestText};
-ghost use Rattle.exports.specs.Calls.{StartCall, FeedCall, blocksCall, BottomupCall, CheckCall, EvaluateCall, WriteCall, ReadCall, SplitCall, PlanCall, BracketCall};
+ghost use Rattle.exports.specs.Calls.{StartCall, FeedCall, blocksCall, BottomupCall, CheckCall, EvaluateCall, WriteCall, ReadCall, SplitCall, PlanCall, BracketCall, SweepCall};
 ghost use Rattle.exports.specs.Single.{RankingCall};
 use crate::findings::evaluate_lent;
 use crate::findings::validate_lent;
@@ -22,6 +22,7 @@ use crate::records::write_evaluated;
 use crate::records::write_finding;
 use crate::records::write_plan;
 use crate::records::write_sampler;
+use crate::records::write_swept;
 use crate::single::ranking_refusal;
 use crate::single::total_of;
 use chance::bracket::bracket;
@@ -38,6 +39,7 @@ use judging::split::split_refusal;
 use layers::size::store_needed;
 use ranking::ranking::from_bins;
 use searching::search::bottomup;
+use sweeping::sweep::sweep;
 
 mod findings;
 mod records;
@@ -291,4 +293,41 @@ pub extern "C" fn jimrawel_bracket(
     *low = bracketed.low;
     *high = bracketed.high;
     bracketed.refusal
+}
+
+// The sweep: pair after pair of the plan for the recording, at the level in units of 2 ^ -40, its 60 numbers written. Refusals 25, 20, 1, then 5 and 7 pair by
+// pair, 8.
+#[no_mangle]
+pub extern "C" fn jimrawel_sweep(
+    raw: &[u8],
+    block_size: usize,
+    low_first: bool,
+    level: u64,
+    words: &mut [u64],
+    store: &mut [u32],
+    bins: &mut [u32],
+    order: &mut [u32],
+    scratch: &mut [u32],
+    entries: &mut [u64],
+    swept: &mut [u64],
+) -> u32
+    ensures { λ r. ⌜ SweepCall (now (raw .entry)) «block_size» «low_first» level (now (words .entry)) (now (store .entry)) (now (bins .entry)) (now (order .entry)) (now (scratch .entry)) (now (entries .entry)) (now (swept .entry)) r (now (words .exit)) (now (store .exit)) (now (bins .exit)) (now (order .exit)) (now (scratch .exit)) (now (entries .exit)) (now (swept .exit)) ⌝ }
+{
+    if swept.len() < 60 {
+        return 25;
+    }
+    let answer = sweep(
+        raw,
+        block_size,
+        low_first,
+        level,
+        words,
+        store,
+        bins,
+        order,
+        scratch,
+        entries,
+    );
+    write_swept(answer, swept);
+    answer.refusal
 }

@@ -5,7 +5,8 @@ ghost use mathlib.Core.List.{_++_};
 ghost use lib.Ieee.{binary64, toBits};
 ghost use lib.ListN.{length, take, drop, replicate};
 ghost use Rattle.subsets.specs.Rank.{rankedOf};
-ghost use Rattle.exports.specs.Records.{orderNumber, samplerOf, samplerNumbers, findingNumbers, scoreCase, scoreBits, evaluatedNumbers, planNumbers, written, samplerUnread, searchUnread, findingUnread, evaluationUnread};
+ghost use Rattle.sweeping.specs.Verdict.{verdictNumber};
+ghost use Rattle.exports.specs.Records.{orderNumber, samplerOf, samplerNumbers, findingNumbers, scoreCase, scoreBits, evaluatedNumbers, planNumbers, testedNumbers, sweptNumbers, written, samplerUnread, searchUnread, findingUnread, evaluationUnread};
 use counting::sampling::Sampler;
 use judging::evaluation::Evaluated;
 use judging::evaluation::Score;
@@ -13,6 +14,9 @@ use judging::plan::Plan;
 use searching::finding::Finding;
 use subsets::rank::Ranked;
 use subsets::rank::compute_index;
+use sweeping::pair::Tested;
+use sweeping::sweep::Swept;
+use sweeping::verdict::Verdict;
 
 // 25, 27, or 0 where a sampler can be read from the slice.
 pub fn sampler_unread(numbers: &[u64]) -> u32
@@ -204,5 +208,40 @@ fn write_sizes(sizes: &[usize], at: usize, numbers: &mut [u64])
     while i < sizes.len() {
         numbers[at + i] = sizes[i] as u64;
         i += 1;
+    }
+}
+
+// Puts the sweep's numbers first: those of the verdict, of the best pair and of the last.
+pub fn write_swept(swept: Swept, numbers: &mut [u64])
+    requires { ⌜ 60 ≤ length (now numbers) ⌝ }
+    ensures { λ _. ⌜ now (numbers .exit) ≡ written (sweptNumbers swept) (now (numbers .entry)) ⌝ }
+{
+    let verdict = swept.verdict;
+    numbers[0] = verdict_number(verdict);
+    numbers[1] = swept.tested as u64;
+    write_tested(swept.best, &mut numbers[2..31]);
+    write_tested(swept.last, &mut numbers[31..60]);
+}
+
+// Puts the numbers of a pair that was tested first: those of its finding, and four behind them.
+fn write_tested(tested: Tested, numbers: &mut [u64])
+    requires { ⌜ 29 ≤ length (now numbers) ⌝ }
+    ensures { λ _. ⌜ now (numbers .exit) ≡ written (testedNumbers tested) (now (numbers .entry)) ⌝ }
+{
+    write_finding(tested.finding, numbers);
+    numbers[25] = tested.blocks as u64;
+    numbers[26] = tested.positive as u64;
+    numbers[27] = tested.low;
+    numbers[28] = tested.high;
+}
+
+// 0 undecided, 1 rejected, 2 not rejected.
+fn verdict_number(verdict: Verdict) -> u64
+    ensures { λ r. ⌜ r ≡ verdictNumber verdict ⌝ }
+{
+    match verdict {
+        Verdict::Rejected => 1,
+        Verdict::Undecided => 0,
+        Verdict::NotRejected => 2,
     }
 }
