@@ -16,8 +16,8 @@
      applies, in the order given at the call, and 0 where there is none (enum jimrawel_refusal). jimrawel_blocks,
      jimrawel_store_needed and jimrawel_longest_text alone refuse nothing and return a number of blocks, of entries and of bytes.
    - Where a call is refused, every lent entry is as it was lent, but for three things: a record that the call writes (a sampler by
-     jimrawel_start, a finding, a rank, an evaluation, both ends of a bracket, two lengths, a plan, a text's length; not a ranking)
-     then has every number 0; after 13, after 14 but for that of jimrawel_bracket, and after 17 of jimrawel_write_finding, the first
+     jimrawel_start, a finding, a rank, an evaluation, both ends of a bracket, two lengths, a plan, a sweep, a text's length; not a
+     ranking) then has every number 0; after 13, after 14 but for that of jimrawel_bracket, and after 17 of jimrawel_write_finding, the first
      2^width entries of the scratch are 0; and where jimrawel_read_finding has read a text and the check refuses what it says, the
      order begins with the text's indices. Beside 25 and 27 nothing at all is written.
    - Entries past those that a call writes are as lent.
@@ -54,6 +54,8 @@ extern "C" {
 #define JIMRAWEL_EVALUATED 3   /* numbers of an evaluation */
 #define JIMRAWEL_LENGTHS 2     /* numbers of a split */
 #define JIMRAWEL_PLAN 15       /* numbers of a plan */
+#define JIMRAWEL_TESTED 29     /* numbers of a pair that a sweep has tested */
+#define JIMRAWEL_SWEPT 60      /* numbers of a sweep */
 
 /* Places in a finding. */
 #define JIMRAWEL_BLOCK_SIZE 0
@@ -66,14 +68,27 @@ extern "C" {
 /* The place of the bit order in a sampler. */
 #define JIMRAWEL_SAMPLER_LOW_FIRST 3
 
+/* Places in a pair that a sweep has tested, behind those of its finding. */
+#define JIMRAWEL_BLOCKS 25
+#define JIMRAWEL_POSITIVE 26
+#define JIMRAWEL_LOW 27
+#define JIMRAWEL_HIGH 28
+
+/* Places in a sweep: two numbers, and where two pairs begin. */
+#define JIMRAWEL_VERDICT 0
+#define JIMRAWEL_PAIRS_TESTED 1
+#define JIMRAWEL_BEST 2
+#define JIMRAWEL_LAST 31
+
 enum jimrawel_refusal {
     JIMRAWEL_OK = 0,
     JIMRAWEL_BAD_BLOCK_SIZE = 1,     /* B is no multiple of 8 from 8 to 4,096 */
     JIMRAWEL_BAD_WIDTH = 2,          /* k is 0 or above 20 */
     JIMRAWEL_WIDTH_ABOVE_BLOCK = 3,  /* k is above B */
     JIMRAWEL_BAD_SAMPLER = 4,        /* its B is invalid, its number of words is not the lent one, or T is above capacity */
-    JIMRAWEL_FULL = 5,               /* the piece would go past capacity */
-    JIMRAWEL_SHORT_BUFFER = 7,       /* bins, order or scratch have fewer than 2^k entries; for a bracket, the scratch fewer than n + 1 */
+    JIMRAWEL_FULL = 5,               /* the piece would go past capacity; for a sweep, the training half of a pair */
+    JIMRAWEL_SHORT_BUFFER = 7,       /* bins, order or scratch have fewer than 2^k entries; for a bracket, the scratch fewer than n + 1, which
+                                        a sweep asks of its entries */
     JIMRAWEL_FEW_BLOCKS = 8,         /* fewer than two blocks */
     JIMRAWEL_BITS_NOT_RISING = 9,    /* the bits do not strictly increase */
     JIMRAWEL_BIT_OUTSIDE = 10,       /* a bit is B or more */
@@ -85,9 +100,17 @@ enum jimrawel_refusal {
     JIMRAWEL_NO_ROOM = 17,           /* the output has fewer bytes than the text, or the order fewer entries than the text has indices */
     JIMRAWEL_BAD_STRETCH = 18,       /* first is above end, or end above the sampler's n */
     JIMRAWEL_BAD_COUNTS = 19,        /* for a bracket, n is above 4,096 or c above n */
+    JIMRAWEL_BAD_LEVEL = 20,         /* the level of a sweep is 0 or at least 2^40 */
     JIMRAWEL_SHORT_RECORD = 25,      /* a slice has fewer numbers than the record that is read from it or written to it */
     JIMRAWEL_TOO_MANY_COUNTED = 26,  /* the counts of a ranking add up to 2^32 or more */
     JIMRAWEL_BAD_BIT_ORDER = 27      /* a sampler or a finding that is read has a bit order that is neither 0 nor 1 */
+};
+
+/* What a sweep says of a recording. */
+enum jimrawel_verdict {
+    JIMRAWEL_UNDECIDED = 0,          /* none is rejected, but a pair's chance may be below its share; also beside a refusal */
+    JIMRAWEL_REJECTED = 1,           /* a pair's chance is below its share of the level: so seldom does a fair source do as well there */
+    JIMRAWEL_NOT_REJECTED = 2        /* no pair's chance is below its share */
 };
 
 /* Starts a recording of blocks of block_size bits.
@@ -217,6 +240,34 @@ uint32_t jimrawel_whole_blocks(
      plan  at least 15 numbers: how many pairs there are, at most 7; 7 block sizes; their 7 widths. Entries past the pairs are 0.
    Refusals: 25, 1. */
 uint32_t jimrawel_configurations(size_t block_size, size_t data_size, uint64_t *plan, size_t plan_len);
+
+/* Sweeps a recording and gives a verdict. Each pair of the plan for block_size and raw_len (jimrawel_configurations) is tested in turn: the first half of the
+   recording's m blocks of B bits, rounded down, is searched for the best set of k bits, the finding is evaluated on the first 4,096 of the other blocks, or on all
+   where they are fewer, and the chance that a fair source has at least as many positive ones is bracketed (jimrawel_bracket). Each pair planned has an equal share
+   of the level, rounded down. The first pair whose upper end is below the share is rejected and ends the sweep: its chance is certainly below the share. Where
+   there is none, the recording is undecided if some lower end is below the share, and else not rejected. A pair with fewer than two blocks is skipped, and its
+   share with it.
+     raw        the recording, whole; it is read.
+     low_first  as for start.
+     level      how often a fair source may be rejected, in units of 2^-40: from 1 to 2^40 - 1. A bracket of n blocks is n (n + 3) / 2 units wide, so that with a
+                share that is no larger nothing can be rejected: where a pair has 4,096 blocks to be evaluated, its share has to be above 8,394,752. Seven pairs,
+                the most, have that from a level of 58,763,271 on, a chance of 0.0000535.
+     words      for each pair that is not skipped B x ceil(h / 64) are needed, where h = m / 2, rounded down, is how many blocks are searched. h may be at most
+                16,777,216 whatever the words: with blocks of one byte, which every plan begins with, that is a recording of 33,554,433 bytes.
+     store      any number of entries, also 0, as for the search: a pair is searched by layers where there are jimrawel_store_needed(B, k).
+     bins, order, scratch  at least 2^k entries each for each pair that is not skipped: 256, since a plan begins with width 8 and has none above.
+     entries    at least n + 1 for the n blocks that are evaluated of each pair that is not skipped: 4,097 are always enough.
+     swept      at least 60 numbers: the verdict (enum jimrawel_verdict); how many pairs were tested; 29 numbers of the best pair, which is that with the lowest
+                lower end, the earlier where two are equal; 29 of the pair tested last, which is the rejected one where one is. The 29 of a pair are its finding's
+                25, the blocks that it was evaluated on, the positive ones, and the lower and the upper end in units of 2^-40.
+   After success the other six buffers are free: nothing is promised of what they hold. A finding's bin order is that of its counts over the searched blocks
+   (jimrawel_evaluate_histogram, jimrawel_from_bins).
+   Refusals: 25, 20, 1, then 5 and 7 of each pair that is not skipped, in the plan's order, then 8 where every pair is skipped, which is below two bytes. All are
+   found before the first search: the six buffers are then as lent, and the 60 numbers 0 but for 25. */
+uint32_t jimrawel_sweep(
+    const uint8_t *raw, size_t raw_len, size_t block_size, bool low_first, uint64_t level, uint64_t *words, size_t words_len,
+    uint32_t *store, size_t store_len, uint32_t *bins, size_t bins_len, uint32_t *order, size_t order_len, uint32_t *scratch, size_t scratch_len,
+    uint64_t *entries, size_t entries_len, uint64_t *swept, size_t swept_len);
 
 #ifdef __cplusplus
 }

@@ -1,6 +1,6 @@
 /* A recording fed in two pieces, searched with a store and with none, its later blocks alone too, the finding evaluated on other bytes and on none, the
-   chance of as many positives bracketed, the finding written as text and read again; then a recording with the low bit first. Prints what it finds, and in how
-   many blocks each bit is set. */
+   chance of as many positives bracketed, the finding written as text and read again; then a recording with the low bit first, and sweeps. Prints what it finds,
+   in how many blocks each bit is set, and the verdicts. */
 #include "../jimrawel.h"
 
 #include <inttypes.h>
@@ -138,6 +138,63 @@ static uint32_t low_first(void) {
     return JIMRAWEL_OK;
 }
 
+#define SWEPT_BYTES 512
+#define SWEPT_WORDS 512 /* for the 4 blocks of 512 bits that are searched; the 256 of 8 bits take 32 */
+#define SWEPT_ENTRIES (SWEPT_BYTES / 2 + 1)
+
+/* Bytes of a small generator. Where it is weak, the last bit of every second byte is the first bit of the byte before it. */
+static void generate(uint8_t *bytes, size_t length, bool weak) {
+    uint32_t state = 1;
+    for (size_t i = 0; i < length; i++) {
+        state = state * 1664525 + 1013904223;
+        bytes[i] = state >> 24;
+        if (weak && i % 2 == 1) bytes[i] = (bytes[i] & 0xFE) | bytes[i - 1] >> 7;
+    }
+}
+
+static void print_pair(const char *name, const uint64_t *pair) {
+    printf("  %s: B %" PRIu64 ", bits", name, pair[JIMRAWEL_BLOCK_SIZE]);
+    for (size_t i = 0; i < pair[JIMRAWEL_WIDTH]; i++) printf(" %" PRIu64, pair[JIMRAWEL_BITS + i]);
+    printf(", division %" PRIu64 ", z %g, positive %" PRIu64 " of %" PRIu64, pair[JIMRAWEL_DIVISION], score(pair[JIMRAWEL_Z]), pair[JIMRAWEL_POSITIVE],
+        pair[JIMRAWEL_BLOCKS]);
+    printf(", 2^-40 times %" PRIu64 " to %" PRIu64 "\n", pair[JIMRAWEL_LOW], pair[JIMRAWEL_HIGH]);
+}
+
+/* Sweeps so many bytes from B 16 on. The store is long enough for the widest pair, blocks of 64 bits at width 4. */
+static void sweep(bool weak, size_t length, uint64_t level) {
+    static const char *const verdicts[] = {"undecided", "rejected", "not rejected"};
+    uint8_t bytes[SWEPT_BYTES];
+    uint64_t words[SWEPT_WORDS], entries[SWEPT_ENTRIES], swept[JIMRAWEL_SWEPT];
+    uint32_t bins[256], order[256], scratch[256];
+    size_t stored = jimrawel_store_needed(64, 4);
+    uint32_t *store = calloc(stored, sizeof *store);
+    if (store == NULL) exit(1);
+    generate(bytes, length, weak);
+    uint32_t refusal = jimrawel_sweep(
+        bytes, length, 16, false, level, words, SWEPT_WORDS, store, stored, bins, 256, order, 256, scratch, 256, entries, SWEPT_ENTRIES, swept, JIMRAWEL_SWEPT);
+    free(store);
+    printf("sweep, length %zu, level %" PRIu64 ": ", length, level);
+    if (refusal != JIMRAWEL_OK) {
+        printf("refusal %" PRIu32 "\n", refusal);
+        return;
+    }
+    printf("%s, %" PRIu64 " pairs tested\n", verdicts[swept[JIMRAWEL_VERDICT]], swept[JIMRAWEL_PAIRS_TESTED]);
+    print_pair("best", swept + JIMRAWEL_BEST);
+    print_pair("last", swept + JIMRAWEL_LAST);
+}
+
+/* A bracket among n blocks is n (n + 3) / 2 units wide, 8,384 among the 128 blocks of 16 bits that are evaluated, 2,144 among 64 of 32 bits, 560 among 32 of 64
+   bits: with one of seven shares no larger than 8,384 the first of them cannot be rejected, and with 560 none, so that the third verdict is left open. 64 bytes have
+   no two blocks of 512 bits. */
+static void sweeps(void) {
+    sweep(true, SWEPT_BYTES, 1 << 30);
+    sweep(true, SWEPT_BYTES, 7 * 8384);
+    sweep(true, SWEPT_BYTES, 7 * 560);
+    sweep(false, 64, 1 << 30);
+    sweep(false, 64, 0);
+    sweep(false, 1, 1 << 30);
+}
+
 int main(void) {
     const uint8_t training[] = {0x00, 0x00, 0xFF, 0xFF};
     const uint8_t testing[BLOCKS] = {0x00, 0x80, 0xFF, 0xFF};
@@ -170,5 +227,6 @@ int main(void) {
     printf("a piece past capacity: refusal %" PRIu32 "\n", refusal);
 
     if ((refusal = low_first()) != JIMRAWEL_OK) return failed("low bit first", refusal);
+    sweeps();
     return 0;
 }

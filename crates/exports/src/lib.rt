@@ -1,6 +1,6 @@
 // The calls for hosts in other languages: numbers and slices only. A slice passes as its address and its number of entries.
-// A sampler is 4 numbers in a lent slice, a finding 25, a sweep 60 (`specs/Records.antt`); a slice too short for its record is answered with 25, a record whose number
-// for the bit order is neither 0 nor 1 with 27, and nothing is written.
+// A sampler is 4 numbers in a lent slice, a finding 25, a sweep 60 (`specs/Records.antt`); a slice too short for its record is answered with 25, a record
+// whose number for the bit order is neither 0 nor 1 with 27, and nothing is written.
 ghost use mathlib.Core.Path.{_≡_};
 ghost use lib.ListN.{length};
 ghost use Rattle.layers.specs.Store.{storeNeeded};
