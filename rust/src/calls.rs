@@ -137,3 +137,25 @@ pub fn whole_blocks(bytes: &[u8], block_size: usize, training: bool, lengths: &m
 pub fn configurations(block_size: usize, data_size: usize, plan: &mut [u64]) -> u32 {
     unsafe { raw::jimrawel_configurations(block_size, data_size, plan.as_mut_ptr(), plan.len()) }
 }
+
+/// `words` have to hold the training half of every pair of the plan; with any `store` the answer is the same.
+pub fn sweep(
+    bytes: &[u8], block_size: usize, low_first: bool, level: u64,
+    words: &mut [u64], store: &mut [u32], bins: &mut [u32], order: &mut [u32], scratch: &mut [u32], entries: &mut [u64], swept: &mut [u64],
+) -> u32 {
+    unsafe {
+        raw::jimrawel_sweep(
+            bytes.as_ptr(), bytes.len(),
+            block_size,
+            low_first,
+            level,
+            words.as_mut_ptr(), words.len(),
+            store.as_mut_ptr(), store.len(),
+            bins.as_mut_ptr(), bins.len(),
+            order.as_mut_ptr(), order.len(),
+            scratch.as_mut_ptr(), scratch.len(),
+            entries.as_mut_ptr(), entries.len(),
+            swept.as_mut_ptr(), swept.len(),
+        )
+    }
+}

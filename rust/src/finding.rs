@@ -26,6 +26,15 @@ impl Finding {
         Finding { numbers, bits, order, counts }
     }
 
+    /// A finding of which a search of these bytes has left the numbers alone: its counts there are made again, and its order is theirs.
+    pub(crate) fn searched(numbers: [u64; 25], bytes: &[u8]) -> Finding {
+        let bins = 1 << numbers[1];
+        let (mut order, mut counts): (Vec<u32>, _) = ((0..bins).collect(), vec![0; bins as usize]);
+        accepted(calls::evaluate_histogram(&numbers, &order, bytes, &mut counts, &mut [0; 3])).expect("what was searched can be evaluated");
+        accepted(calls::from_bins(numbers[1] as usize, &counts, &mut order, &mut [0; 2])).expect("the counts are those of the blocks");
+        Finding::found(numbers, order, counts)
+    }
+
     /// A finding from elsewhere, where it is sound. Its score and counts are not known: 0 and none.
     pub fn checked(block_size: usize, bit_order: BitOrder, bits: &[u32], order: &[u32], division: u32) -> Result<Finding, Refusal> {
         let mut numbers = [0; 25];

@@ -37,6 +37,7 @@ mod finding;
 mod raw;
 mod refusal;
 mod sampler;
+mod sweep;
 
 pub use bit_order::BitOrder;
 pub use bracket::Bracket;
@@ -44,6 +45,7 @@ pub use calls::store_needed;
 pub use finding::{Evaluation, Finding};
 pub use refusal::Refusal;
 pub use sampler::Sampler;
+pub use sweep::{sweep, Sweep, Tested, Verdict};
 
 use refusal::accepted;
 

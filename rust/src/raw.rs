@@ -97,4 +97,18 @@ extern "C" {
         data_size: usize,
         plan: *mut u64, plan_len: usize,
     ) -> u32;
+
+    pub fn jimrawel_sweep(
+        raw: *const u8, raw_len: usize,
+        block_size: usize,
+        low_first: bool,
+        level: u64,
+        words: *mut u64, words_len: usize,
+        store: *mut u32, store_len: usize,
+        bins: *mut u32, bins_len: usize,
+        order: *mut u32, order_len: usize,
+        scratch: *mut u32, scratch_len: usize,
+        entries: *mut u64, entries_len: usize,
+        swept: *mut u64, swept_len: usize,
+    ) -> u32;
 }

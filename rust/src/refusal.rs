@@ -10,7 +10,7 @@ pub enum Refusal {
     WidthAboveBlock = 3,
     /// The sampler is none of the lent words.
     Sampler = 4,
-    /// The piece would go past capacity.
+    /// The piece would go past capacity; of a sweep, the half of the recording that is searched.
     Full = 5,
     /// A buffer is too short, for the bins or for the n + 1 entries of a bracket.
     Buffer = 7,
@@ -36,6 +36,8 @@ pub enum Refusal {
     Stretch = 18,
     /// A bracket is asked of more than 4,096 blocks, or of more positives than blocks.
     Counts = 19,
+    /// The level of a sweep is 0 or at least 2^40.
+    Level = 20,
     /// A slice is too short for its record.
     ShortRecord = 25,
     /// The counts of a ranking add up to 2^32 or more.
@@ -44,7 +46,7 @@ pub enum Refusal {
     BitOrder = 27,
 }
 
-const ALL: [Refusal; 20] = [
+const ALL: [Refusal; 21] = [
     Refusal::BlockSize,
     Refusal::Width,
     Refusal::WidthAboveBlock,
@@ -62,6 +64,7 @@ const ALL: [Refusal; 20] = [
     Refusal::Room,
     Refusal::Stretch,
     Refusal::Counts,
+    Refusal::Level,
     Refusal::ShortRecord,
     Refusal::TooManyCounted,
     Refusal::BitOrder,

@@ -77,7 +77,7 @@ impl Sampler {
 const MOST_STORED: usize = 64 << 20;
 
 /// The entries of the store that a search allocates: none where they would be more than the most.
-fn own_store(block_size: usize, k: usize) -> usize {
+pub(crate) fn own_store(block_size: usize, k: usize) -> usize {
     let needed = calls::store_needed(block_size, k);
     if needed > MOST_STORED { 0 } else { needed }
 }
