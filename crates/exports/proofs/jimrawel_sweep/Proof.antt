@@ -47,7 +47,7 @@ returns-2 c =
     let a = start (e .before) .args in
     sweep-made (a .raw .now) (a .block-size) (a .low-first) (a .level) (a .words .now) (a .store .now) (a .bins .now) (a .order .now) (a .scratch .now) (a .entries .now) (a .swept .now)
     (s .sweep .result) _ _ _ _ _ _ (w .write-swept .last .1 .0)
-    (e .if1 .left) (s .sweep .ensures .0) (s .sweep .ensures .1) (w .write-swept .ensures)
+    (e .if1 .left) (s .sweep .ensures .0) (s .sweep .ensures .1 .0) (w .write-swept .ensures)
 
 pub jimrawel-sweep-spec : {M : Type 1} → statement M
 jimrawel-sweep-spec =
