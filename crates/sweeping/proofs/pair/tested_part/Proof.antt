@@ -25,7 +25,9 @@ part-is d = let a = d .before .before .args in ap (take (4096 * (a .block-size /
 returns : tie.Need-returns
 returns c =
     let d = c .before in
-    sym (take-all (4096 * (d .before .before .args .block-size / 8)) (d .second-part .result .now) (c .if1 .taken)) ∙ part-is d
+    let all : List ℕ = d .second-part .result .now in
+    let few : length all ≤ 4096 * (d .before .before .args .block-size / 8) = omega (arith, c .if1 .taken) in
+    sym (take-all (4096 * (d .before .before .args .block-size / 8)) all few) ∙ part-is d
 
 slice-aggregate-result : tie.Need-slice-aggregate-result
 slice-aggregate-result c =

@@ -1,7 +1,7 @@
 -- `sweep::next_progress` meets its contract: a rejection stops, a pair of fewer than two blocks is skipped, any other can be tested.
 use borrow.Author.Needs.{needs}
 use mathlib.Core.Path.{ap, _∙_}
-use Prim.Native.Nat.{_/_, _≤_}
+use Prim.Native.Nat.{_/_, _≤_, _<_}
 use native.Mathlib.Omega.{arith}
 use lib.ListN.{length}
 use borrow.Author.Tests.{le-leb, lt-leb}
@@ -29,7 +29,8 @@ returns-2 : tie.Need-returns-2
 returns-2 c =
     let d = c .before in
     let a = entry d .args in
-    skips (a .share) (a .raw .now) (a .pair) (a .progress) (d .before .if1 .left) (lt-leb _ _ (c .if2 .taken))
+    let few : length (a .raw .now) / (a .pair .«block_size» / 8) < 2 = omega (arith, c .if2 .taken) in
+    skips (a .share) (a .raw .now) (a .pair) (a .progress) (d .before .if1 .left) (lt-leb _ _ few)
 
 -- two blocks or more
 two : (d : tie.Else2) → let a = entry (d .before) .args in 2 ≤ length (a .raw .now) / (a .pair .«block_size» / 8)
