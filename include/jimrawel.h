@@ -11,7 +11,7 @@
      returns, nothing is allocated, nothing is shared between calls: calls may run at the same time where no slice that one of
      them writes overlaps a slice of the other. A thread with 160 KB of stack can make every call: this is measured, not proved
      (differential/README.md, "The stack"). A search with no store takes the most, 110 KB at width 20; with a store that
-     suffices it takes 45 KB, a ranking 11 KB, and no other call takes 1 KB.
+     suffices it takes 45 KB, a sweep 61 KB, a ranking 11 KB, and no other call takes 1 KB.
    - Each call takes any numbers at all. What it cannot take it refuses: the result is the number of the first refusal that
      applies, in the order given at the call, and 0 where there is none (enum jimrawel_refusal). jimrawel_blocks,
      jimrawel_store_needed and jimrawel_longest_text alone refuse nothing and return a number of blocks, of entries and of bytes.
@@ -242,28 +242,28 @@ uint32_t jimrawel_whole_blocks(
 uint32_t jimrawel_configurations(size_t block_size, size_t data_size, uint64_t *plan, size_t plan_len);
 
 /* Sweeps a recording and gives a verdict. Each pair of the plan for block_size and raw_len (jimrawel_configurations) is tested in turn: the first half of the
-   recording's m blocks of B bits, rounded down, is searched for the best set of k bits, the finding is evaluated on the first 4,096 of the other blocks, or on all
-   where they are fewer, and the chance that a fair source has at least as many positive ones is bracketed (jimrawel_bracket). Each pair planned has an equal share
-   of the level, rounded down. The first pair whose upper end is below the share is rejected and ends the sweep: its chance is certainly below the share. Where
-   there is none, the recording is undecided if some lower end is below the share, and else not rejected. A pair with fewer than two blocks is skipped, and its
-   share with it.
+   recording's m blocks of B bits, rounded down, is searched for the best set of k bits, the finding is evaluated on the first 4,096 of the other blocks, or
+   on all where they are fewer, and the chance that a fair source has at least as many positive ones is bracketed (jimrawel_bracket). Each pair planned has an
+   equal share of the level, rounded down. The first pair whose upper end is below the share is rejected and ends the sweep: its chance is certainly below the
+   share. Where there is none, the recording is undecided if some lower end is below the share, and else not rejected. A pair with fewer than two blocks is
+   skipped, and its share with it.
      raw        the recording, whole; it is read.
      low_first  as for start.
-     level      how often a fair source may be rejected, in units of 2^-40: from 1 to 2^40 - 1. A bracket of n blocks is n (n + 3) / 2 units wide, so that with a
-                share that is no larger nothing can be rejected: where a pair has 4,096 blocks to be evaluated, its share has to be above 8,394,752. Seven pairs,
-                the most, have that from a level of 58,763,271 on, a chance of 0.0000535.
-     words      for each pair that is not skipped B x ceil(h / 64) are needed, where h = m / 2, rounded down, is how many blocks are searched. h may be at most
-                16,777,216 whatever the words: with blocks of one byte, which every plan begins with, that is a recording of 33,554,433 bytes.
+     level      how often a fair source may be rejected, in units of 2^-40: from 1 to 2^40 - 1. A bracket of n blocks is n (n + 3) / 2 units wide, so that
+                with a share that is no larger nothing can be rejected: where a pair has 4,096 blocks to be evaluated, its share has to be above 8,394,752.
+                Seven pairs, the most, have that from a level of 58,763,271 on, a chance of 0.0000535.
+     words      for each pair that is not skipped B x ceil(h / 64) are needed, where h = m / 2, rounded down, is how many blocks are searched. h may be at
+                most 16,777,216 whatever the words: with blocks of one byte, which every plan begins with, that is a recording of 33,554,433 bytes.
      store      any number of entries, also 0, as for the search: a pair is searched by layers where there are jimrawel_store_needed(B, k).
      bins, order, scratch  at least 2^k entries each for each pair that is not skipped: 256, since a plan begins with width 8 and has none above.
      entries    at least n + 1 for the n blocks that are evaluated of each pair that is not skipped: 4,097 are always enough.
-     swept      at least 60 numbers: the verdict (enum jimrawel_verdict); how many pairs were tested; 29 numbers of the best pair, which is that with the lowest
-                lower end, the earlier where two are equal; 29 of the pair tested last, which is the rejected one where one is. The 29 of a pair are its finding's
-                25, the blocks that it was evaluated on, the positive ones, and the lower and the upper end in units of 2^-40.
+     swept      at least 60 numbers: the verdict (enum jimrawel_verdict); how many pairs were tested; 29 numbers of the best pair, which is that with the
+                lowest lower end, the earlier where two are equal; 29 of the pair tested last, which is the rejected one where one is. The 29 of a pair are
+                its finding's 25, the blocks that it was evaluated on, the positive ones, and the lower and the upper end in units of 2^-40.
    After success the other six buffers are free: nothing is promised of what they hold. A finding's bin order is that of its counts over the searched blocks
    (jimrawel_evaluate_histogram, jimrawel_from_bins).
-   Refusals: 25, 20, 1, then 5 and 7 of each pair that is not skipped, in the plan's order, then 8 where every pair is skipped, which is below two bytes. All are
-   found before the first search: the six buffers are then as lent, and the 60 numbers 0 but for 25. */
+   Refusals: 25, 20, 1, then 5 and 7 of each pair that is not skipped, in the plan's order, then 8 where every pair is skipped, which is below two bytes. All
+   are found before the first search: the six buffers are then as lent, and the 60 numbers 0 but for 25. */
 uint32_t jimrawel_sweep(
     const uint8_t *raw, size_t raw_len, size_t block_size, bool low_first, uint64_t level, uint64_t *words, size_t words_len,
     uint32_t *store, size_t store_len, uint32_t *bins, size_t bins_len, uint32_t *order, size_t order_len, uint32_t *scratch, size_t scratch_len,

@@ -74,8 +74,13 @@ fn print_sweep(asked: &Asked, bytes: usize, level: u64, swept: &Sweep) {
     println!("recording     {}, {bytes} bytes, the {first} bit of a byte first", asked.file);
     print!("plan          ");
     println!("{}", pairs.iter().map(|(size, width)| format!("{width} of {size} bits")).collect::<Vec<_>>().join(", "));
-    println!("level         {}, of which each of {} pairs has a share of {}", down(level), pairs.len(), down(share));
+    println!("level         {}, of which each of {} pairs has a share of {}", asked.level, pairs.len(), down(share));
     println!("verdict       {}", verdict(swept.verdict));
+    // So wide is a bracket, whatever the positive blocks: at a share that is no larger nothing is rejected.
+    let apart = swept.best.bracket.high - swept.best.bracket.low;
+    if swept.verdict == Verdict::Undecided && share <= apart {
+        println!("              they are {} apart, so that this pair needs a level above {}", up(apart), up(apart * pairs.len() as u64));
+    }
     println!("pairs tested  {} of {}", swept.pairs_tested, pairs.len());
     if swept.verdict == Verdict::Rejected {
         print_pair("the pair that is rejected", &swept.last);
@@ -87,8 +92,8 @@ fn print_sweep(asked: &Asked, bytes: usize, level: u64, swept: &Sweep) {
 
 fn verdict(verdict: Verdict) -> &'static str {
     match verdict {
-        Verdict::Rejected => "REJECTED: a fair source would do as well less often than the share allows",
-        Verdict::Undecided => "UNDECIDED: a chance may be below the share, but its bounds are too far apart to tell",
+        Verdict::Rejected => "REJECTED: the chance of a fair source to do as well is below the share",
+        Verdict::Undecided => "UNDECIDED: a chance may be below the share, its two bounds do not tell",
         Verdict::NotRejected => "NOT REJECTED: no chance is below the share",
     }
 }
@@ -101,8 +106,8 @@ fn print_pair(name: &str, tested: &Tested) {
     println!("  block size  {} bits", finding.block_size());
     println!("  width       {width} bits");
     println!("  bits        {}", finding.bits().iter().map(u32::to_string).collect::<Vec<_>>().join(" "));
-    println!("  division    the {} of {bins} values of these bits that were most frequent in the first half", finding.division());
-    println!("  positive    {positive} of {blocks} blocks of the second half have one of them; a fair source has {fair:.1} in the mean");
+    println!("  division    {} of the {bins} values of these bits, the most frequent in the first half", finding.division());
+    println!("  positive    {positive} of {blocks} blocks of the second half have such a value; a fair source has {fair:.1} in the mean");
     println!("  chance      between {} and {} that a fair source has as many or more", down(bracket.low), up(bracket.high));
 }
 

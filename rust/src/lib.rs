@@ -1,7 +1,7 @@
 //! The bias search for recordings of hardware random generators, over the proved library's C interface (include/jimrawel.h).
 //!
 //! A [`Sampler`] owns its words, so it cannot meet others; a [`Finding`] comes only from a search, a check or a sound text, with its own bin order. Buffers
-//! have the right size by construction, and what is refused is a [`Refusal`].
+//! have the right size by construction, and what is refused is a [`Refusal`]. [`sweep`](fn@sweep) tests a whole recording and gives a [`Verdict`].
 //!
 //! ```
 //! use jimrawel::{BitOrder, Refusal, Sampler};
