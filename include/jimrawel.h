@@ -251,7 +251,8 @@ uint32_t jimrawel_configurations(size_t block_size, size_t data_size, uint64_t *
      low_first  as for start.
      level      how often a fair source may be rejected, in units of 2^-40: from 1 to 2^40 - 1. A bracket of n blocks is n (n + 3) / 2 units wide, so that
                 with a share that is no larger nothing can be rejected: where a pair has 4,096 blocks to be evaluated, its share has to be above 8,394,752.
-                Seven pairs, the most, have that from a level of 58,763,271 on, a chance of 0.0000535.
+                Seven pairs, the most, have that from a level of 58,763,271 on, a chance of 0.0000535. Below the number of pairs the share is 0, nothing is
+                below it, and every recording is not rejected.
      words      for each pair that is not skipped B x ceil(h / 64) are needed, where h = m / 2, rounded down, is how many blocks are searched. h may be at
                 most 16,777,216 whatever the words: with blocks of one byte, which every plan begins with, that is a recording of 33,554,433 bytes.
      store      any number of entries, also 0, as for the search: a pair is searched by layers where there are jimrawel_store_needed(B, k).
@@ -263,7 +264,7 @@ uint32_t jimrawel_configurations(size_t block_size, size_t data_size, uint64_t *
    After success the other six buffers are free: nothing is promised of what they hold. A finding's bin order is that of its counts over the searched blocks
    (jimrawel_evaluate_histogram, jimrawel_from_bins).
    Refusals: 25, 20, 1, then 5 and 7 of each pair that is not skipped, in the plan's order, then 8 where every pair is skipped, which is below two bytes. All
-   are found before the first search: the six buffers are then as lent, and the 60 numbers 0 but for 25. */
+   are found before the first search: the six buffers are then as lent, and the 60 numbers are 0, or as lent beside 25. */
 uint32_t jimrawel_sweep(
     const uint8_t *raw, size_t raw_len, size_t block_size, bool low_first, uint64_t level, uint64_t *words, size_t words_len,
     uint32_t *store, size_t store_len, uint32_t *bins, size_t bins_len, uint32_t *order, size_t order_len, uint32_t *scratch, size_t scratch_len,

@@ -76,6 +76,9 @@ fn print_sweep(asked: &Asked, bytes: usize, level: u64, swept: &Sweep) {
     println!("{}", pairs.iter().map(|(size, width)| format!("{width} of {size} bits")).collect::<Vec<_>>().join(", "));
     println!("level         {}, of which each of {} pairs has a share of {}", asked.level, pairs.len(), down(share));
     println!("verdict       {}", verdict(swept.verdict));
+    if share == 0 {
+        println!("              but at so small a level the share is 0, and nothing is ever rejected");
+    }
     // So wide is a bracket, whatever the positive blocks: at a share that is no larger nothing is rejected.
     let apart = swept.best.bracket.high - swept.best.bracket.low;
     if swept.verdict == Verdict::Undecided && share <= apart {

@@ -44,7 +44,8 @@ pub struct Sweep {
 
 /// Tests a whole recording: pair after pair of its [`plan`], the first half of the blocks is searched, and the finding evaluated on the second, until a pair is
 /// rejected. `level` is how often a fair source may be rejected, in units of 2^-40, and each pair planned has an equal share of it. A bracket of n blocks is
-/// n (n + 3) / 2 units wide, so that with a share that is no larger nothing is rejected: 8,394,752 at 4,096 blocks, the most.
+/// n (n + 3) / 2 units wide, so that with a share that is no larger nothing is rejected: 8,394,752 at 4,096 blocks, the most. A level below the number of
+/// pairs, at most 7, leaves each a share of 0: nothing is below it, and every recording is not rejected.
 ///
 /// A recording has 2 to 33,554,433 bytes; a longer one is refused with [`Refusal::Full`].
 ///

@@ -89,6 +89,18 @@ fn a_sweep_is_its_pairs() {
     }
 }
 
+/// A level below the seven pairs leaves no share, and nothing is below 0. A share that is no larger than a bracket is wide leaves open what is not fair at all.
+#[test]
+fn small_levels() {
+    for (level, verdict, pairs_tested) in [
+        (6, Verdict::NotRejected, 7), (7, Verdict::Undecided, 7), (7 * 152, Verdict::Undecided, 7), (7 * 153, Verdict::Rejected, 5),
+        (7 * 8_384, Verdict::Rejected, 3), (7 * 33_152, Verdict::Rejected, 2), (7 * 33_153, Verdict::Rejected, 1),
+    ] {
+        let swept = sweep(&[0; 512], 8, HighFirst, level).unwrap();
+        assert_eq!((swept.verdict, swept.pairs_tested), (verdict, pairs_tested), "level {level}");
+    }
+}
+
 #[test]
 fn low_first_is_high_first_of_reversed_bytes() {
     let recording = generate(512, true);
