@@ -127,4 +127,5 @@ def main():
     print(f"{folder}: {len(cases)} cases", file=sys.stderr)
 
 
-main()
+if __name__ == "__main__":
+    main()

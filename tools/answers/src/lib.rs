@@ -4,14 +4,17 @@
 //! A module below includes one file and adds public functions, which reach what is private to that file.
 #![allow(dead_code, unused_imports, unexpected_cfgs)]
 
+mod brackets;
 mod draws;
 mod feeding;
 pub mod order;
+mod pipe;
 mod rules;
 pub mod run;
 mod sheet;
 mod stores;
 
+pub use brackets::{Bracket, Brackets};
 pub use draws::Draws;
 pub use feeding::{capacity_bytes, cut, held, pieces, recording, valid, write_recording, CHUNK_ENDS, SHORT_CHUNK_ENDS};
 pub use order::{high_first, reversed};
