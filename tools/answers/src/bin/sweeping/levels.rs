@@ -1,8 +1,6 @@
 //! Levels about the ends of brackets, chosen from the numbers, and verdicts of every kind.
 
 use super::*;
-use std::collections::BTreeMap;
-use sweep::{Swept, Verdict};
 
 pub fn cases(sweeper: &mut Sweeper) -> Vec<Case> {
     let mut cases = ties();
@@ -13,7 +11,8 @@ pub fn cases(sweeper: &mut Sweeper) -> Vec<Case> {
     cases
 }
 
-/// One lower end in all pairs: 2^40 where no block is positive, 0 where all are and many; and few bytes of which each pair has its own.
+/// One lower end in several pairs: 2^40 in all where no block is positive; 0 in all, or but for the last, where all are positive and many; 0 in all but the
+/// first where bytes are all alike often and longer blocks are not.
 fn ties() -> Vec<Case> {
     let mut cases = Vec::new();
     for (block_size, half) in [(8, 1), (8, 2), (8, 4), (16, 4), (24, 5), (64, 5), (128, 3)] {
@@ -22,10 +21,13 @@ fn ties() -> Vec<Case> {
             cases.push(fitting(level, block_size, half % 2 == 1, turned.clone()));
         }
     }
-    for (block_size, length) in [(128, 3000), (256, 3000), (512, 3001)] {
-        for level in [1, 3, 1_000_000, 10_000_000] {
+    for (block_size, length) in [(128, 3000), (256, 3000), (512, 3001), (512, 2001), (512, 1800)] {
+        for level in [1, 3, 700_000, 1_000_000, 10_000_000] {
             cases.push(fitting(level, block_size, length % 2 == 1, Recording::periodic(length, vec![0xA5])));
         }
+    }
+    for (length, level) in [(2800, 1), (2801, 1000)] {
+        cases.push(fitting(level, 256, length % 2 == 1, Recording::periodic(length, (0..=255).collect())));
     }
     cases
 }
@@ -41,12 +43,10 @@ fn sources() -> Vec<Case> {
         }
     }
     // Nothing shows in blocks shorter than these: each block has a copy of its first half behind it.
-    for (block_size, half, blocks) in [(8, 1, 300), (8, 2, 150), (16, 4, 80), (128, 8, 60), (256, 16, 60), (512, 32, 60)] {
+    for (block_size, half, blocks) in [(8, 1, 150), (8, 2, 100), (16, 4, 80)] {
         let drawn = Recording::drawn(half * blocks, 4000 + half as u64).bytes();
-        let echo: Vec<u8> = drawn.chunks(half).flat_map(|part| [part, part].concat()).collect();
-        if echo.len() <= 1024 {
-            cases.push(fitting(level, block_size, half % 2 == 0, Recording::of(echo)));
-        }
+        let echo = drawn.chunks(half).flat_map(|part| [part, part].concat()).collect();
+        cases.push(fitting(level, block_size, half % 2 == 0, Recording::of(echo)));
     }
     cases
 }
@@ -72,8 +72,8 @@ fn edges(sweeper: &mut Sweeper) -> Vec<Case> {
         let planned = case.plan().len();
         for (j, tested) in sweeper.all(&case).iter().enumerate() {
             for share in [tested.low, tested.low + 1, tested.high, tested.high + 1] {
-                let levels = [level_of(share, planned, j % 2 == 1), level_of(share, planned, j % 2 == 0)];
-                cases.extend(levels.into_iter().flatten().take(if j == 0 { 2 } else { 1 }).map(|level| Case { level, ..case.clone() }));
+                let levels = [false, true].into_iter().filter_map(|greatest| level_of(share, planned, greatest));
+                cases.extend(levels.map(|level| Case { level, ..case.clone() }).filter(|case| sweeper.sweep(case).ok().unwrap().tested.len() > j));
             }
         }
     }
@@ -90,18 +90,6 @@ fn edges(sweeper: &mut Sweeper) -> Vec<Case> {
     cases
 }
 
-/// Verdict, pairs tested, the best pair's place, and whether another has the same lower end.
-fn kind(swept: &Swept) -> String {
-    let best = swept.best();
-    let tie = swept.tested.iter().filter(|tested| tested.low == swept.tested[best].low).count() > 1;
-    let verdict = match swept.verdict {
-        Verdict::Rejected => "rejected",
-        Verdict::NotRejected => "not rejected",
-        Verdict::Undecided => "undecided",
-    };
-    format!("{verdict}, {} tested, best {}{}", swept.tested.len(), best + 1, if tie { ", tied" } else { "" })
-}
-
 /// Up to two cases of each kind that some hundred recordings have.
 fn kinds(sweeper: &mut Sweeper) -> Vec<Case> {
     let mut found: BTreeMap<String, Vec<Case>> = BTreeMap::new();
@@ -116,14 +104,11 @@ fn kinds(sweeper: &mut Sweeper) -> Vec<Case> {
         let shares: Vec<u64> = sweeper.all(&case).iter().flat_map(|tested| [tested.low, tested.low + 1, tested.high, tested.high + 1]).collect();
         for level in shares.into_iter().filter_map(|share| level_of(share, planned, turn % 2 == 0)) {
             let case = Case { level, ..case.clone() };
-            let kept = found.entry(kind(&sweeper.sweep(&case).ok().unwrap())).or_default();
+            let kept = found.entry(sweeper.sweep(&case).ok().unwrap().kind()).or_default();
             if kept.len() < 2 {
                 kept.push(case);
             }
         }
-    }
-    for (kind, cases) in &found {
-        eprintln!("{kind}: {}", cases.len());
     }
     found.into_values().flatten().collect()
 }

@@ -2,6 +2,7 @@
 
 use answers::order::{both, by_turns};
 use answers::*;
+use std::collections::BTreeMap;
 
 mod levels;
 mod recording;
@@ -14,6 +15,15 @@ use sweep::{pairs, Case, Room, Sweeper, UNIT};
 
 /// As many entries of a store as the program lends at most.
 const LONG_STORE: usize = 45_056;
+
+/// Among others: rejected at the first pair and at later ones, the lowest lower end at the stopping pair, before it, and at two pairs.
+const WANTED: [&str; 17] = [
+    "refused 20", "refused  1", "refused  5", "refused  7", "refused  8",
+    "rejected, 1 tested, best 1", "rejected, 2 tested, best 1", "rejected, 2 tested, best 1, tied", "rejected, 2 tested, best 2",
+    "rejected, 3 tested, best 2, tied", "rejected, 3 tested, best 3",
+    "undecided, 2 tested, best 1", "undecided, 2 tested, best 2", "undecided, 3 tested, best 2",
+    "not rejected, 2 tested, best 2", "not rejected, 3 tested, best 2, tied", "not rejected, 7 tested, best 5",
+];
 
 fn main() {
     let mut sweeper = Sweeper::start();
@@ -32,9 +42,12 @@ fn main() {
     cases.extend(sizes::cases());
     cases.extend(levels::cases(&mut sweeper));
     sheet.case([cases.len()]);
+    let mut kinds: BTreeMap<String, usize> = BTreeMap::new();
     for case in &cases {
-        sweeper.write(&mut sheet, case);
+        *kinds.entry(sweeper.write(&mut sheet, case)).or_default() += 1;
     }
+    kinds.iter().for_each(|(kind, count)| eprintln!("{kind}: {count}"));
+    WANTED.iter().for_each(|kind| assert!(kinds.contains_key(*kind), "no case: {kind}"));
     sheet.save();
 }
 

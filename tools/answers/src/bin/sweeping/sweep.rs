@@ -107,6 +107,14 @@ impl Swept {
     pub fn best(&self) -> usize {
         (0..self.tested.len()).min_by_key(|&i| (self.tested[i].low, i)).unwrap()
     }
+
+    /// The verdict, the pairs tested, which is the best, and whether another has the same lower end.
+    pub fn kind(&self) -> String {
+        let verdict = ["undecided", "rejected", "not rejected"][number(&self.verdict)];
+        let lowest = self.tested[self.best()].low;
+        let tied = self.tested.iter().filter(|tested| tested.low == lowest).count() > 1;
+        format!("{verdict}, {} tested, best {}{}", self.tested.len(), self.best() + 1, if tied { ", tied" } else { "" })
+    }
 }
 
 /// Makes sweeps, and remembers each pair that it has tested.
@@ -163,8 +171,8 @@ impl Sweeper {
         Ok(Swept { verdict: if open { Verdict::Undecided } else { Verdict::NotRejected }, tested })
     }
 
-    /// The case, and its four lines of answers.
-    pub fn write(&mut self, sheet: &mut Sheet, case: &Case) {
+    /// The case, and its four lines of answers. Returns what kind of answer it is.
+    pub fn write(&mut self, sheet: &mut Sheet, case: &Case) -> String {
         let Room { words, store, bins, order, scratch, entries } = case.room;
         let Recording { length, seed, weight, ref pattern } = case.recording;
         let given = [case.block_size, case.low_first as usize, words, store, bins, order, scratch, entries, length];
@@ -177,12 +185,14 @@ impl Sweeper {
                 sheet.answer([0; 29]);
                 // Nothing that was lent has changed.
                 sheet.answer([0; 6]);
+                format!("refused {refusal:2}")
             }
             Ok(swept) => {
                 sheet.answer([0, number(&swept.verdict), swept.tested.len()]);
                 sheet.answer(line(&swept.tested[swept.best()], case.low_first));
                 sheet.answer(line(swept.tested.last().unwrap(), case.low_first));
                 sheet.answer([0]);
+                swept.kind()
             }
         }
     }
