@@ -11,8 +11,8 @@ pub fn cases(sweeper: &mut Sweeper) -> Vec<Case> {
     cases
 }
 
-/// One lower end in several pairs: 2^40 in all where no block is positive; 0 in all, or but for the last, where all are positive and many; 0 in all but the
-/// first where bytes are all alike often and longer blocks are not.
+/// One lower end in several pairs: 2^40 in all, where few blocks are tested and none is positive; 0 in all, or in all but the last, where all blocks are
+/// equal; 0 in all but the first, where each byte comes as often as any other.
 fn ties() -> Vec<Case> {
     let mut cases = Vec::new();
     for (block_size, half) in [(8, 1), (8, 2), (8, 4), (16, 4), (24, 5), (64, 5), (128, 3)] {
@@ -42,7 +42,7 @@ fn sources() -> Vec<Case> {
             cases.push(fitting(level, 256, low_first, recording));
         }
     }
-    // Nothing shows in blocks shorter than these: each block has a copy of its first half behind it.
+    // The first half of each block stands there twice: nothing shows in shorter blocks, so that a later pair is the one rejected.
     for (block_size, half, blocks) in [(8, 1, 150), (8, 2, 100), (16, 4, 80)] {
         let drawn = Recording::drawn(half * blocks, 4000 + half as u64).bytes();
         let echo = drawn.chunks(half).flat_map(|part| [part, part].concat()).collect();
@@ -58,7 +58,7 @@ fn level_of(share: u64, planned: usize, greatest: bool) -> Option<u64> {
     (1..UNIT).contains(&level).then_some(level)
 }
 
-/// For each pair of some recordings the shares about both ends: high is the share, and one below it; low is the share, and one below it.
+/// For each pair of some recordings the shares about both ends, high being the share or one below it, and low too; where an earlier pair is not rejected.
 fn edges(sweeper: &mut Sweeper) -> Vec<Case> {
     let mut cases = Vec::new();
     let weak = |length: usize, seed: u64, weight: u64| Recording { length, seed, weight, pattern: vec![0x0F, 0x0F, 0x33, 0xF0] };
@@ -121,7 +121,7 @@ fn drawn() -> Vec<Case> {
         let block_size = [8, 16, 24, 32, 40, 104, 256, 264, 312, 504, 512, 520][draws.below(12)];
         let length = if block_size < 128 { 2 + draws.below(9) } else { 2 + draws.below(260) };
         let recording = Recording { length, seed: draws.below(1 << 31) as u64, weight: draws.below(257) as u64, pattern: draws.bytes(3) };
-        let level = 1 + draws.next() % (UNIT - 1) >> draws.below(30);
+        let level = (1 + draws.next() % (UNIT - 1)) >> draws.below(30);
         let mut case = fitting(level.max(1), block_size, draws.below(2) == 1, recording);
         let room = &mut case.room;
         room.words += draws.below(3);
