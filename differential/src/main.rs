@@ -1,8 +1,8 @@
 //! Our calls against the reference's, on drawn cases: `differential [SEED [CASES]]`. Or on recordings that take too long to be drawn: `differential widths`,
 //! `differential capacity`, `differential wide WIDTH [reference|layered]`. Or recordings searched in many stretches: `differential stretches [SEED [CASES]]`. Or
-//! findings as text: `differential exchange [SEED [CASES]]`. Or ranks of all subsets in turn: `differential ranks`. Or what is known to differ:
-//! `differential differences`. Or their times: `differential bench`. Or beside those of an earlier commit: `differential before`. Or the stack that our calls
-//! take: `differential stack`.
+//! findings as text: `differential exchange [SEED [CASES]]`. Or whole sweeps: `differential sweeps [SEED [CASES]]`. Or ranks of all subsets in turn:
+//! `differential ranks`. Or what is known to differ: `differential differences`. Or their times: `differential bench [sweeps]`. Or beside those of an earlier
+//! commit: `differential before`. Or the stack that our calls take: `differential stack`.
 
 mod account;
 #[cfg(feature = "before")]
@@ -19,6 +19,7 @@ mod ranks;
 mod recordings;
 mod stack;
 mod stretches;
+mod sweeps;
 mod wide;
 mod widths;
 
@@ -40,6 +41,7 @@ fn main() {
         Some("ranks") => return ranks::run(),
         Some("stack") => return stack::run(),
         Some("stretches") => return stretches::run(seed(args.get(1)), cases(args.get(2), 20_000)),
+        Some("sweeps") => return sweeps::run(seed(args.get(1)), cases(args.get(2), 4_000)),
         Some("wide") => return wide::run(args.get(1).expect("the width"), args.get(2).map(String::as_str)),
         Some("widths") => return widths::run(),
         _ => (),
