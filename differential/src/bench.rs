@@ -4,8 +4,10 @@ use crate::ours;
 use crate::recordings::{numbers, numbers_in, store_size};
 use answers::run::sound;
 use answers::{
-    brute_force, brute_force_threads, compute_index, evaluate_histogram, from_bins, reversed, to_json, transform_data, with_low_first, Draws, Finding, Histogram,
+    bottomup, brute_force, brute_force_threads, compute_index, configurations, evaluate_histogram, from_bins, reversed, to_json, transform_data, whole_blocks,
+    with_low_first, Draws, Finding, Histogram,
 };
+use jimrawel::calls;
 use std::{hint::black_box, time::Instant};
 
 pub fn seconds(run: &mut dyn FnMut()) -> f64 {
@@ -171,9 +173,53 @@ fn exchange(k: usize) {
     assert!(read_order == order && read_numbers[4..] == numbers[4..]);
 }
 
-pub fn run() {
+/// A sweep, its buffers made before and with a store for every pair, beside the reference's split, layered search and evaluation of the same pairs on the same
+/// blocks. The bracket and the verdict are in ours alone: p-values are another crate's there. No pair of drawn bytes is rejected at one in 1,024, so that all are
+/// tested.
+fn sweep(block_size: usize, bytes: usize) {
+    let data = Draws::new(6).bytes(bytes);
+    let pairs = configurations(block_size, bytes);
+    let most = |need: fn(usize, usize, usize) -> usize| pairs.iter().map(|&(size, k)| need(size, k, bytes / (size / 8) / 2)).max().unwrap();
+    let (mut words, mut store) = (vec![0; most(|size, _, half| size * half.div_ceil(64))], vec![0; most(|size, k, _| store_size(size, k).unwrap())]);
+    let (mut bins, mut order, mut scratch, mut entries, mut swept) = ([0; 256], [0; 256], [0; 256], [0; 4097], [0; 60]);
+    let mut expected = Vec::new();
+    compare(
+        &format!("B {block_size}, {} MB, sweep", bytes / 1_000_000),
+        &mut || {
+            let data = black_box(&data);
+            let refusal = calls::sweep(
+                data, block_size, false, 1 << 30, &mut words, &mut store, &mut bins, &mut order, &mut scratch, &mut entries, &mut swept,
+            );
+            assert_eq!(refusal, 0);
+        },
+        &mut || {
+            let test = |&(size, k): &(usize, usize)| {
+                let (training, testing) = whole_blocks(black_box(&data), size, true).unwrap();
+                let found = bottomup(training, size, k, 0).unwrap();
+                let positive = evaluate_histogram(&found, &testing[..testing.len().min(4096 * size / 8)]).positive;
+                (numbers(&found), positive as u64)
+            };
+            expected = pairs.iter().map(test).collect();
+        },
+    );
+    let (found, positive) = expected.last().unwrap();
+    assert_eq!((swept[1] as usize, &swept[31..56], swept[57]), (pairs.len(), &found[..], *positive));
+}
+
+fn sweeps() {
+    for (block_size, bytes) in [(8, 1_000_000), (128, 1_000_000), (128, 10_000_000)] {
+        sweep(block_size, bytes);
+    }
+}
+
+/// All rows, or those of the sweeps.
+pub fn run(sweeps_alone: bool) {
     println!("| Case | ours, ms | reference, ms | ratio |");
     println!("|---|---|---|---|");
+    sweeps();
+    if sweeps_alone {
+        return;
+    }
     for k in [4, 8, 12, 16, 18, 20] {
         ranking(k);
     }

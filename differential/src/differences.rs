@@ -8,9 +8,10 @@ use answers::{
     arguments, bottomup, compute_index, configurations, evaluate_histogram, from_bins, from_json, reversed, to_json, transform_data, validate, whole_blocks,
     with_low_first, Finding,
 };
+use jimrawel::calls;
 use std::panic;
 
-const ROWS: [(&str, fn() -> Checked); 34] = [
+const ROWS: [(&str, fn() -> Checked); 40] = [
     ("pieces", pieces),
     ("row words", row_words),
     ("an unfinished block", unfinished_block),
@@ -35,6 +36,12 @@ const ROWS: [(&str, fn() -> Checked); 34] = [
     ("numbers of 2^32 and more", large_numbers),
     ("entries past the width", past_the_width),
     ("a refused split", refused_split),
+    ("sweeps: blocks evaluated", blocks_evaluated),
+    ("sweeps: verdicts", verdicts),
+    ("sweeps: levels", levels),
+    ("sweeps: nothing to test", nothing_to_test),
+    ("sweeps: long recordings", long_sweeps),
+    ("sweeps: rooms", rooms_of_sweeps),
     ("texts: low_first is written", low_first_written),
     ("texts: low_first is passed over", low_first_passed_over),
     ("texts: other values of low_first", other_values_of_low_first),
@@ -381,6 +388,86 @@ fn past_the_width() -> Checked {
 fn refused_split() -> Checked {
     is("split", ours::whole_blocks(&[1, 2, 3], 16, true), (8, [0; 2]))?;
     is("the reference's split", whole_blocks(&[1, 2, 3], 16, true).is_err(), true)
+}
+
+/// What our sweep answers with so many words and entries of the other buffers, and whether it left them as lent.
+fn sweep_in(words: usize, bins: usize, entries: usize, bytes: &[u8], block_size: usize, level: u64) -> (u32, [u64; 60], bool) {
+    let (mut words, mut store, mut bins, mut entries) = (vec![5; words], [5; 254], vec![5; bins], vec![5; entries]);
+    let (mut order, mut scratch, mut swept) = (bins.clone(), bins.clone(), [ours::LENT; 60]);
+    let refusal =
+        calls::sweep(bytes, block_size, false, level, &mut words, &mut store, &mut bins, &mut order, &mut scratch, &mut entries, &mut swept);
+    let narrow = [&store[..], &bins, &order, &scratch].concat();
+    (refusal, swept, narrow.iter().all(|&entry| entry == 5) && words.iter().chain(&entries).all(|&entry| entry == 5))
+}
+
+/// With enough of each: up to blocks of 512 bits a training half has a word for every 16 bytes, and 512 more at the most.
+fn sweep(bytes: &[u8], block_size: usize, level: u64) -> (u32, [u64; 60], bool) {
+    sweep_in(bytes.len() / 8 + 512, 256, 4097, bytes, block_size, level)
+}
+
+/// A verdict's number, the pairs tested, and of the last one the block size, the blocks, the positive ones and both ends.
+fn judged(swept: (u32, [u64; 60], bool)) -> [u64; 7] {
+    assert_eq!(swept.0, 0);
+    [0, 1, 31, 56, 57, 58, 59].map(|at: usize| swept.1[at])
+}
+
+fn blocks_evaluated() -> Checked {
+    let bytes = [&[0x80; 8192][..], &[0]].concat();
+    is("the last pair", judged(sweep(&bytes, 8, 1 << 39)), [1, 1, 8, 4096, 4096, 0, 8_394_752])?;
+    let (training, testing) = whole_blocks(&bytes, 8, true)?;
+    let positive = |testing: &[u8]| Ok::<_, String>(evaluate_histogram(&bottomup(training, 8, 8, 1)?, testing).positive);
+    is("the reference's testing blocks, and those positive", (testing.len(), positive(testing)?), (4097, 4096))?;
+    is("the reference's positive ones of the first 4,096", positive(&testing[..4096])?, 4096)
+}
+
+fn verdicts() -> Checked {
+    // One block, at 1 / 256: exactly 2^32.
+    let below = 1_u64 << 32;
+    is("the reference's positive blocks", evaluate_histogram(&bottomup(&[0x80], 8, 8, 1)?, &[0x80]).positive, 1)?;
+    is("the reference's pairs", configurations(8, 2).len(), 7)?;
+    for (level, verdict) in [(7 * below, 2), (7 * below + 6, 2), (7 * (below + 1), 0), (7 * (below + 2) + 6, 0), (7 * (below + 3), 1)] {
+        is("the last pair", judged(sweep(&[0x80; 2], 8, level)), [verdict, 1, 8, 1, 1, below, below + 2])?;
+    }
+    Ok(())
+}
+
+fn levels() -> Checked {
+    for level in [0, 1 << 40, u64::MAX] {
+        is("a level that is none, and a block size", sweep(&[0x80; 2], 7, level), (20, [0; 60], true))?;
+    }
+    is("a block size", sweep(&[0x80; 2], 7, 1), (1, [0; 60], true))?;
+    is("the least level, whose shares are 0", judged(sweep(&[0x80; 2], 8, 1))[0], 2)?;
+    for alpha in ["0", "1"] {
+        is("the reference's arguments", arguments(&["-a", alpha]).is_err_and(|words| words.contains("alpha")), true)?;
+    }
+    is("the reference's arguments below 2^-40", arguments(&["-a", "1e-13"]).is_ok(), true)
+}
+
+fn nothing_to_test() -> Checked {
+    is("sweep", sweep(&[0x80], 8, 1), (8, [0; 60], true))?;
+    for (block_size, _) in configurations(8, 1) {
+        is("the reference's split", whole_blocks(&[0x80], block_size, true).is_err(), true)?;
+    }
+    Ok(())
+}
+
+fn long_sweeps() -> Checked {
+    let bytes = vec![0x80; (1 << 25) + 2];
+    is("the reference's training blocks", whole_blocks(&bytes, 8, true)?.0.len(), (1 << 24) + 1)?;
+    is("sweep", sweep(&bytes, 8, 1 << 39), (5, [0; 60], true))?;
+    is("the last pair of a byte less", judged(sweep(&bytes[1..], 8, 1 << 39)), [1, 1, 8, 4096, 4096, 0, 8_394_752])
+}
+
+fn rooms_of_sweeps() -> Checked {
+    // 300 bytes of training are 8 rows of 5 words, and 4 blocks of 512 bits as many words; the refusals come pair by pair.
+    let bytes = [0x80; 600];
+    for (words, bins, entries, refusal) in [(39, 255, 300, 5), (40, 255, 301, 7), (40, 256, 300, 7), (511, 256, 301, 5)] {
+        is("sweep", sweep_in(words, bins, entries, &bytes, 512, 1), (refusal, [0; 60], true))?;
+    }
+    is("just enough", sweep_in(512, 256, 301, &bytes, 512, 1).0, 0)?;
+    let mut swept = [5; 59];
+    let refusal = calls::sweep(&bytes, 512, false, 0, &mut [], &mut [], &mut [], &mut [], &mut [], &mut [], &mut swept);
+    is("a record of 59 numbers", (refusal, swept), (25, [5; 59]))
 }
 
 /// What our reading answers, in an order and a scratch of four entries, and whether it left them as lent.

@@ -34,7 +34,7 @@ fn main() {
     match first {
         #[cfg(feature = "before")]
         Some("before") => return before::run(),
-        Some("bench") => return bench::run(),
+        Some("bench") => return bench::run(args.get(1).is_some_and(|rows| rows == "sweeps")),
         Some("capacity") => return capacity::run(),
         Some("differences") => return differences::run(),
         Some("exchange") => return exchange::run(seed(args.get(1)), cases(args.get(2), 100_000)),

@@ -3,7 +3,7 @@
 
 use crate::recordings::numbers;
 use answers::run::sound;
-use answers::{to_json, with_low_first, Draws};
+use answers::{configurations, to_json, with_low_first, Draws};
 use jimrawel::calls;
 use std::ffi::c_void;
 use std::sync::atomic::{AtomicBool, AtomicUsize, Ordering};
@@ -98,6 +98,11 @@ pub fn run() {
     for (block_size, k, blocks) in [(8, 1, 40_000), (8, 8, 40_000), (16, 16, 40_000), (4096, 1, 65), (4096, 2, 65), (24, 20, 65)] {
         search(&mut table, false, block_size, k, blocks);
     }
+    for (block_size, bytes) in [(8, 80_000), (4096, 66_560)] {
+        for stored in [true, false] {
+            sweep(&mut table, stored, block_size, bytes);
+        }
+    }
     for (block_size, k, blocks) in [(24, 20, 65), (4096, 3, 65)] {
         search(&mut table, true, block_size, k, blocks);
     }
@@ -141,6 +146,22 @@ fn search(table: &mut Table, stored: bool, block_size: usize, k: usize, blocks: 
     let (mut store, mut bins, mut order, mut finding) = (vec![0; entries], vec![0; 1 << k], vec![0; 1 << k], [0; 25]);
     table.row("jimrawel_bottomup", &format!("B {block_size}, k {k}, {blocks} blocks, {with}"), move || {
         assert_eq!(calls::bottomup(&sampler, &words, 0..blocks, k, &mut store, &mut bins, &mut order, &mut finding), 0);
+    });
+}
+
+/// With a store that suffices for every pair, or with none. At a level whose shares are 0 no pair is rejected, and every one is tested.
+fn sweep(table: &mut Table, stored: bool, block_size: usize, bytes: usize) {
+    let (raw, pairs) = (Draws::new(3).bytes(bytes), configurations(block_size, bytes));
+    let words = pairs.iter().map(|&(size, _)| size * (bytes / (size / 8) / 2).div_ceil(64)).max().unwrap();
+    let entries = pairs.iter().map(|&(size, k)| calls::store_needed(size, k)).max().unwrap();
+    let (entries, with) = if stored { (entries, "a store") } else { (0, "no store") };
+    let (mut words, mut store, mut bins, mut order, mut scratch) = (vec![0; words], vec![0; entries], vec![0; 256], vec![0; 256], vec![0; 256]);
+    let (mut entries, mut swept) = (vec![0; 4097], vec![0; 60]);
+    table.row("jimrawel_sweep", &format!("B {block_size}, {bytes} bytes, {with}"), move || {
+        let refusal = calls::sweep(
+            &raw, block_size, true, 1, &mut words, &mut store, &mut bins, &mut order, &mut scratch, &mut entries, &mut swept,
+        );
+        assert_eq!((refusal, swept[1] as usize), (0, pairs.len()));
     });
 }
 
