@@ -6,11 +6,13 @@ mod draws;
 
 use crate::account::{Account, Run};
 use crate::case::{fewer, same};
+use crate::ours;
 use crate::recordings::{numbers_in, store_size};
 use answers::run::start_of;
 use answers::{bottomup, capacity_bytes, choose, configurations, evaluate_histogram, high_first, valid, whole_blocks, Draws};
 use chance::{binomial_sum, Whole};
 use jimrawel::calls;
+use std::time::{Duration, Instant};
 
 /// A level that is refused, as is every one above: a chance of 1, in units of 2^-40.
 const CERTAIN: u64 = 1 << 40;
@@ -24,6 +26,9 @@ const TESTED: usize = 29;
 
 /// How many bins the reference may count in a search, about five seconds; a sweep that needs a search of more is left out.
 const BINS: usize = 60_000_000;
+
+/// How long a sweep that differs is made smaller: each step may take the reference seconds.
+const SHRINKING: Duration = Duration::from_secs(300);
 
 /// One call: the recording, the level, and how many entries each buffer has.
 #[derive(Clone, Debug)]
@@ -69,8 +74,10 @@ pub fn run(seed: u64, cases: u64) {
     run.close(&format!("sweeps, seed {seed}, {recording} recordings"));
 }
 
+/// A sweep that differs, made smaller for as long as a smaller one differs and there is time.
 fn shrink(mut sweep: Sweep) -> Sweep {
-    while let Some(smaller) = sweep.smaller().into_iter().find(|smaller| smaller.compare().is_err()) {
+    let start = Instant::now();
+    while let Some(smaller) = sweep.smaller().into_iter().find(|smaller| start.elapsed() < SHRINKING && smaller.compare().is_err()) {
         sweep = smaller;
     }
     sweep
@@ -169,7 +176,7 @@ fn bracket(n: usize, c: usize, k: usize, d: usize) -> (u64, u64) {
 enum Expected {
     /// A refusal's number.
     Refused(u32),
-    /// The verdict's number and the 60 numbers.
+    /// The 60 numbers.
     Swept([u64; NUMBERS]),
     /// A search of it takes the reference too long.
     LeftOut,
@@ -301,36 +308,39 @@ impl Sweep {
         Lent { words: wide(self.words), store, bins, order, scratch, entries: wide(self.entries) }
     }
 
-    /// Makes the call and compares; answers what the sweep is entered as.
-    fn check(&self, model: &mut Model, entered: &mut Account) -> Result<&'static str, String> {
-        let expected = self.expected(model, entered)?;
-        if let Expected::LeftOut = expected {
-            entered.add("searches that take the reference too long", false);
-            return Ok("sweeps with such a search");
-        }
+    /// What the call answers: its refusal, the numbers, and whether the other buffers are as lent.
+    fn call(&self) -> (u32, Vec<u64>, bool) {
         let lent = self.lent();
         let Lent { mut words, mut store, mut bins, mut order, mut scratch, mut entries } = lent.clone();
-        let mut swept = vec![crate::ours::LENT; self.swept];
+        let mut swept = vec![ours::LENT; self.swept];
         let refusal = calls::sweep(
             &self.bytes, self.block_size, self.low_first, self.level,
             &mut words, &mut store, &mut bins, &mut order, &mut scratch, &mut entries, &mut swept,
         );
-        let mut left = vec![crate::ours::LENT; self.swept];
-        match expected {
+        (refusal, swept, Lent { words, store, bins, order, scratch, entries } == lent)
+    }
+
+    /// Makes the call and compares; answers what the sweep is entered as.
+    fn check(&self, model: &mut Model, entered: &mut Account) -> Result<&'static str, String> {
+        // What stands past the numbers is as lent.
+        let mut left = vec![ours::LENT; self.swept];
+        match self.expected(model, entered)? {
+            Expected::LeftOut => {
+                entered.add("searches that take the reference too long", false);
+                Ok("sweeps with such a search")
+            }
             Expected::Swept(numbers) => {
-                same("refusal", refusal, 0)?;
                 left[..NUMBERS].copy_from_slice(&numbers);
-                same("numbers", &swept, &left)?;
+                let (refusal, swept, _) = self.call();
+                same("refusal and numbers", (refusal, swept), (0, left))?;
                 Ok(["sweeps, undecided", "sweeps, rejected", "sweeps, not rejected"][numbers[0] as usize])
             }
             Expected::Refused(number) => {
-                same("refusal", refusal, number)?;
                 // Beside 25 nothing is written.
                 if number != 25 {
                     left[..NUMBERS].fill(0);
                 }
-                same("numbers beside a refusal", &swept, &left)?;
-                same("buffers as lent", Lent { words, store, bins, order, scratch, entries } == lent, true)?;
+                same("refusal, numbers, and buffers as lent", self.call(), (number, left, true))?;
                 Ok(match number {
                     1 => "sweeps, refused with 1",
                     5 => "sweeps, refused with 5",
@@ -340,7 +350,6 @@ impl Sweep {
                     _ => "sweeps, refused with 25",
                 })
             }
-            Expected::LeftOut => unreachable!(),
         }
     }
 
@@ -349,14 +358,17 @@ impl Sweep {
         self.check(&mut Model::of(self), &mut Account::default())
     }
 
+    /// Sweeps that are smaller by one step; first those of fewer pairs, which take less time.
     fn smaller(&self) -> Vec<Sweep> {
-        let mut sweeps: Vec<Sweep> = fewer(&self.bytes, true).into_iter().map(|bytes| Sweep { bytes, ..self.clone() }).collect();
+        let blocks = [4096, 512, 256, 128].into_iter().filter(|&block_size| valid(self.block_size) && block_size > self.block_size);
+        let mut sweeps: Vec<Sweep> = blocks.map(|block_size| Sweep { block_size, ..self.clone() }).collect();
         if self.low_first {
             sweeps.push(Sweep { low_first: false, ..self.clone() });
         }
         if self.store > 0 {
             sweeps.push(Sweep { store: 0, ..self.clone() });
         }
+        sweeps.extend(fewer(&self.bytes, true).into_iter().map(|bytes| Sweep { bytes, ..self.clone() }));
         sweeps
     }
 }
