@@ -1,5 +1,6 @@
 // What the programs that replay stored answers share: whole decimal numbers, read from a text and printed, doubles and lent entries printed, and recordings
-// fed in pieces.
+// of boards fed in pieces.
+pub mod earlier;
 pub mod entries;
 pub mod feeding;
 pub mod patterns;

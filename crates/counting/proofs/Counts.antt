@@ -71,7 +71,7 @@ pub bin-small : (f : ℕ → ℕ) → ((b : ℕ) → f b < 2) → (bs : List ℕ
 bin-small f h bs i short =
     lt-of-lt-of-le (bin-lt f h (drop i bs)) (pow-mono (let e : length (drop i bs) ≤ 20 = simp length-drop (omega arith) in e))
 
-bin-ext : (f g : ℕ → ℕ) (bs : List ℕ) → ((i : ℕ) → i < length bs → f (getD bs i 0) ≡ g (getD bs i 0)) → binOf f bs ≡ binOf g bs
+pub bin-ext : (f g : ℕ → ℕ) (bs : List ℕ) → ((i : ℕ) → i < length bs → f (getD bs i 0) ≡ g (getD bs i 0)) → binOf f bs ≡ binOf g bs
 unfolding binOf
 bin-ext f g [] h = refl
 bin-ext f g (b ∷ bs) h = λ i. h 0 (omega arith) i + 2 * bin-ext f g bs (λ j l. h (suc j) (omega arith)) i

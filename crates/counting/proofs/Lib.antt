@@ -1,7 +1,5 @@
 pub mod Lanes
-pub mod Filling
 pub mod Accepted
-pub mod Recorded
 pub mod Reversing
 pub mod Counts
 pub mod Marks

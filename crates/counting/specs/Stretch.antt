@@ -1,26 +1,14 @@
 -- A stretch of the blocks that the words hold: those from block `first` to before block `end`.
 use Prim.Native.Nat.{ℕ, _-_, _*_, _≤_}
 use mathlib.Core.Path.{_≡_}
-use mathlib.Core.Bool.{Bool, true, cond}
+use mathlib.Core.Bool.{Bool, true}
 use mathlib.Core.List.{List}
-use lib.Dec.{leb}
 use lib.ListN.{take, drop}
 use Rattle.counting.specs.Block.{validSize}
-use Rattle.counting.specs.Recording.{blockBytes, stride, blocksIn, recordedBit}
+use Rattle.counting.specs.Recording.{blockBytes, blocksIn, recordedBit}
 use Rattle.counting.specs.Sample.{onward, AgreeBelow}
-use Rattle.counting.specs.Sampling.{blocksOf}
 use Rattle.counting.specs.Words.{storedBit}
-use Rattle.counting.specs.declared.sampling.Sampler.{Sampler}
 use Rattle.counting.specs.declared.stretch.Stretch.{Stretch}
-
--- the sampler's blocks from `first` to before `end`, in the number of words lent
-abbrev pub stretchOf : Sampler → ℕ → ℕ → ℕ → Stretch
-stretchOf s words first end =
-    record { «block_size» = s .«block_size»; stride = stride (s .«block_size») words; first = first; end = end }
-
--- 18: first is above end, or end above the sampler's n; else 0
-unfoldable pub stretchRefusal : Sampler → ℕ → ℕ → ℕ
-stretchRefusal s first end = cond (leb first end) (cond (leb end (blocksOf s)) 0 18) 18
 
 -- n: the blocks of the stretch
 abbrev pub span : Stretch → ℕ

@@ -1,8 +1,6 @@
-// The bottom of the bias search: blocks and their bins, the sampler that takes a recording in pieces, a stretch of its blocks, and counts over
-// its rows.
+// The bottom of the bias search: blocks and their bins, a stretch of the blocks that words hold, and counts over their rows.
 pub mod block;
 mod chunk;
 pub mod rows;
-pub mod sampling;
 pub mod stretch;
 mod tally;

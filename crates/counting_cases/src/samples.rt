@@ -1,7 +1,7 @@
-// Cases of samplers: B, the bit order, 1 where the low bit comes first, and the number of lent words; the number of pieces, for each its length and its
-// bytes; where start is not refused, the number of subsets, for each the first block and the end of a stretch, its width and its bits.
-// Answer: a line with start's refusal, for each feed its refusal and the bytes taken after it, and the last sampler's bit order. Where start is not refused: a
-// line with n; a line for each row, as far as it holds blocks below n; a line for each subset with the counts of its bins over the stretch and, once more, of
+// Cases of samplers: B, the bit order, 1 where the low bit comes first, and the number of lent words; how the recording begins and the feeds, as
+// `cases::feeding` reads them; where the start or the carry-over is not refused, the number of subsets, for each the first block and the end of a stretch, its
+// width and its bits.
+// Answer: the line of `cases::feeding`. Where the start or the carry-over is not refused: a line with n; a line for each row, as far as it holds blocks below n; a line for each subset with the counts of its bins over the stretch and, once more, of
 // its all-ones bin.
 ghost use mathlib.Core.Path.{_≡_};
 ghost use Prim.Native.Nat.{_^_, _≤_};
@@ -22,8 +22,8 @@ use cases::reading::numbers;
 use counting::block::bin_count;
 use counting::rows::multi_eval;
 use counting::rows::multi_eval_neg;
-use counting::sampling::blocks;
 use counting::stretch::Stretch;
+use sampling::sampler::blocks;
 
 // The number of cases, then the cases.
 pub fn replay(text: &[u8], at: usize) {
@@ -63,7 +63,9 @@ fn replay_with(
         return recorded.at;
     }
     let stride = row_words(words.len(), block_size);
-    let n = blocks(recorded.sampler);
+    let sampler = recorded.sampler;
+    let head = sampler.head;
+    let n = blocks(head);
     print(n as u64);
     end_line();
     print_rows(words, block_size, stride, n);

@@ -11,8 +11,8 @@ use borrow.Author.Tests.{le-leb}
 use Rattle.subsets.specs.Subsets.{padded}
 use Rattle.subsets.proofs.Filling.{padded-front, padded-length}
 use Rattle.ranking.specs.Ranking.{zeroScore}
-use Rattle.counting.specs.Recording.{recording}
 use Rattle.counting.specs.Stretch.{stretchBytes}
+use Rattle.sampling.specs.Boards.{recording}
 use Rattle.searching.specs.Claim.{BestIn}
 use Rattle.searching.specs.declared.finding.Finding.{Finding}
 use Rattle.searching.proofs.Refusing.{neither}
@@ -152,7 +152,7 @@ module _ (B : ℕ) (low : Bool) (held : List ℕ) (first end k : ℕ) (f : Findi
       }
 
 pub searches-exchange : SearchesExchange
-searches-exchange B low ws pieces answers s ws′ acquired first end k store bins order r store′ bins′ order′ S z =
-    passes B low (recording B (length ws) pieces) first end k (r .finding) bins′ order′
-    (claims B low ws pieces answers s ws′ acquired .search first end k store bins order r store′ bins′ order′ S .best z)
-    (all-agree B low ws pieces answers s ws′ acquired first end k store bins order r store′ bins′ order′ S z)
+searches-exchange B low ws old feeds answers s ws′ acquired first end k store bins order r store′ bins′ order′ S z =
+    passes B low (recording B (length ws) old feeds) first end k (r .finding) bins′ order′
+    (claims B low ws old feeds answers s ws′ acquired .search first end k store bins order r store′ bins′ order′ S .best z)
+    (all-agree B low ws old feeds answers s ws′ acquired first end k store bins order r store′ bins′ order′ S z)

@@ -5,7 +5,8 @@ use mathlib.Core.List.{List}
 use mathlib.Core.Option.{some}
 use Prim.Native.Nat.{ℕ, _^_, _≤_}
 use lib.ListN.{length, take}
-use Rattle.counting.specs.declared.sampling.Sampler.{Sampler}
+use Rattle.sampling.specs.Boards.{Feed}
+use Rattle.sampling.specs.declared.sampler.Sampler.{Sampler}
 use Rattle.subsets.specs.Subsets.{padded}
 use Rattle.ranking.specs.Ranking.{zeroScore}
 use Rattle.searching.specs.Claim.{Acquisition}
@@ -62,9 +63,9 @@ pub record Passes (k : ℕ) (f : Finding) (order : List ℕ) : Type 0 where
       → 2 ^ k ≤ length order₂ → 2 ^ k ≤ length scratch₂
       → (r ≡ record { refusal = 0; finding = scoreless f }) × (take (2 ^ k) order₂′ ≡ order)
 
--- Theorem: that holds of what a search leaves after a start that is not refused and any feeds, where the search is not refused.
+-- Theorem: that holds of what a search leaves after an acquisition, where the search is not refused.
 abbrev pub SearchesExchange : Type 0
 SearchesExchange =
-    (B : ℕ) (low : Bool) (ws : List ℕ) (pieces : List (List ℕ)) (answers : List ℕ) (s : Sampler) (ws′ : List ℕ) → Acquisition B low ws pieces answers s ws′
+    (B : ℕ) (low : Bool) (ws : List ℕ) (old : List (List ℕ)) (feeds : List Feed) (answers : List ℕ) (s : Sampler) (ws′ : List ℕ) → Acquisition B low ws old feeds answers s ws′
     → (first end k : ℕ) (store bins order : List ℕ) (r : Searched) (store′ bins′ order′ : List ℕ)
-    → BottomupSearch s ws′ first end k store bins order r store′ bins′ order′ → r .refusal ≡ 0 → Passes k (r .finding) (take (2 ^ k) order′)
+    → BottomupSearch (s .head) ws′ first end k store bins order r store′ bins′ order′ → r .refusal ≡ 0 → Passes k (r .finding) (take (2 ^ k) order′)

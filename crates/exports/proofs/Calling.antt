@@ -1,17 +1,22 @@
 -- What an exported function promises, from what the function that it wraps has promised and what was written; and where a record has no room or is none.
-use mathlib.Core.Path.{_≡_, refl, ap, subst, _∙_}
+use mathlib.Core.Path.{_≡_, refl, sym, ap, subst, _∙_}
 use mathlib.Core.Bool.{Bool}
 use mathlib.Core.List.{List, [], _∷_}
 use Prim.Native.Nat.{ℕ, _≤_, _<_}
 use native.Mathlib.Omega.{arith}
-use lib.Dec.{leb}
-use lib.ListN.{length}
-use borrow.Author.Tests.{leb-true}
-use Rattle.counting.specs.Sampling.{startedOf, startedWords, fedOf, fedWords}
-use Rattle.counting.specs.declared.sampling.Sampler.{Sampler}
-use Rattle.counting.specs.declared.sampling.Started.{Started}
-use Rattle.counting.specs.declared.sampling.Fed.{Fed}
+use lib.Dec.{leb, eqb}
+use lib.ListN.{length, getD, take}
+use borrow.Author.Tests.{leb-true, eqb-true}
 use Rattle.counting.proofs.Accepted.{passed}
+use Rattle.sampling.specs.Carrying.{carriedOf, carriedWords}
+use Rattle.sampling.specs.Feeding.{takenOf, nextHead, fedUnfinished, fedOf, fedWords}
+use Rattle.sampling.specs.Sampler.{startedOf, startedWords}
+use Rattle.sampling.specs.declared.carrying.Carried.{Carried}
+use Rattle.sampling.specs.declared.carrying.Earlier.{Earlier}
+use Rattle.sampling.specs.declared.feeding.Taken.{Taken}
+use Rattle.sampling.specs.declared.sampler.Head.{Head}
+use Rattle.sampling.specs.declared.sampler.Started.{Started}
+use Rattle.sampling.proofs.Usable.{taken-refusal, head-is}
 use Rattle.searching.specs.Search.{BottomupSearch}
 use Rattle.searching.specs.declared.finding.Searched.{Searched}
 use Rattle.judging.specs.Evaluation.{evaluatedOf, evaluatedScratch}
@@ -24,16 +29,42 @@ use Rattle.sweeping.specs.declared.sweep.Swept.{Swept}
 use Rattle.exchange.specs.Exchange.{Writes, Reads}
 use Rattle.exchange.specs.declared.reader.Reading.{Reading}
 use Rattle.exchange.specs.declared.writer.Written.{Written}
-use Rattle.exports.specs.Records.{samplerNumbers, samplerOf, findingNumbers, findingRead, evaluatedNumbers, planNumbers, sweptNumbers, written, samplerUnread, searchUnread, findingUnread, evaluationUnread}
-use Rattle.exports.specs.Calls.{StartCall, FeedCall, Answered, BottomupCall, EvaluateCall, WriteCall, ReadCall, SplitCall, PlanCall, SweepCall}
+use Rattle.exports.specs.Records.{findingNumbers, findingRead, evaluatedNumbers, planNumbers, sweptNumbers, written, findingUnread, evaluationUnread}
+use Rattle.exports.specs.Samplers.{samplerNumbers, headOf, earlierOf, SamplerWritten, samplerRoom, samplerUnread, feedUnread, searchUnread, carryUnread}
+use Rattle.exports.specs.Calls.{StartCall, FeedCall, CarryCall, Answered, BottomupCall, EvaluateCall, WriteCall, ReadCall, SplitCall, PlanCall, SweepCall}
 
 -- ---- records that can be read
 
-pub sampler-room : (l : List ℕ) → samplerUnread l ≡ 0 → 4 ≤ length l
-unfolding samplerUnread
-sampler-room l e = leb-true 4 (length l) (passed (leb 4 (length l)) _ 25 (omega arith) e .0)
+pub room-for : (numbers bytes : ℕ) → samplerRoom numbers bytes ≡ 0 → (8 ≤ numbers) × (2048 ≤ bytes)
+unfolding samplerRoom
+room-for numbers bytes e =
+    let p = passed (leb 8 numbers) _ 25 (omega arith) e in
+    (leb-true 8 numbers (p .0), leb-true 2048 bytes (passed (leb 2048 bytes) 0 25 (omega arith) (p .1) .0))
 
-pub search-room : (l : List ℕ) (room : ℕ) → searchUnread l room ≡ 0 → (25 ≤ room) × (4 ≤ length l)
+pub sampler-room : (l : List ℕ) → samplerUnread l ≡ 0 → 8 ≤ length l
+unfolding samplerUnread
+sampler-room l e = leb-true 8 (length l) (passed (leb 8 (length l)) _ 25 (omega arith) e .0)
+
+-- .. and its number for the bit order is one
+pub sampler-order : (l : List ℕ) → samplerUnread l ≡ 0 → getD l 3 0 ≤ 1
+unfolding samplerUnread
+sampler-order l e =
+    let p = passed (leb 8 (length l)) _ 25 (omega arith) e in
+    leb-true (getD l 3 0) 1 (passed (leb (getD l 3 0) 1) 0 27 (omega arith) (p .1) .0)
+
+pub feed-read : (l : List ℕ) (bytes : ℕ) → feedUnread l bytes ≡ 0 → (samplerUnread l ≡ 0) × (2048 ≤ bytes)
+unfolding feedUnread
+feed-read l bytes e = let p = passed (leb 2048 bytes) (samplerUnread l) 25 (omega arith) e in (p .1, leb-true 2048 bytes (p .0))
+
+pub carry-room : (l : List ℕ) (numbers bytes : ℕ) → carryUnread l numbers bytes ≡ 0 → (4 ≤ length l) × (8 ≤ numbers) × (2048 ≤ bytes)
+unfolding carryUnread
+carry-room l numbers bytes e =
+    let p = passed (leb 4 (length l)) _ 25 (omega arith) e in
+    let q = passed (eqb (samplerRoom numbers bytes) 0) _ 25 (omega arith) (p .1) in
+    let r = room-for numbers bytes (eqb-true _ _ (q .0)) in
+    (leb-true 4 (length l) (p .0), r .0, r .1)
+
+pub search-room : (l : List ℕ) (room : ℕ) → searchUnread l room ≡ 0 → (25 ≤ room) × (8 ≤ length l)
 unfolding searchUnread
 search-room l room e = let p = passed (leb 25 room) (samplerUnread l) 25 (omega arith) e in (leb-true 25 room (p .0), sampler-room l (p .1))
 
@@ -48,44 +79,83 @@ evaluation-room l room e = let p = passed (leb 3 room) (findingUnread l) 25 (ome
 -- ---- start
 
 pub start-made :
-    (B : ℕ) (low : Bool) (ws sampler : List ℕ) (a : Started) (ws′ sampler′ : List ℕ)
-    → 4 ≤ length sampler
+    (B : ℕ) (low : Bool) (ws sampler unfinished : List ℕ) (a : Started) (ws′ sampler′ unfinished′ : List ℕ)
+    → samplerRoom (length sampler) (length unfinished) ≡ 0
     → a ≡ startedOf B low (length ws)
     → ws′ ≡ startedWords B ws
-    → sampler′ ≡ written (samplerNumbers (a .sampler)) sampler
-    → StartCall B low ws sampler (a .refusal) ws′ sampler′
-start-made B low ws sampler a ws′ sampler′ room e w s =
+    → SamplerWritten (a .sampler) sampler unfinished sampler′ unfinished′
+    → StartCall B low ws sampler unfinished (a .refusal) ws′ sampler′ unfinished′
+start-made B low ws sampler unfinished a ws′ sampler′ unfinished′ room e w s =
     record {
-      made = λ h. (ap (λ (x : Started). x .refusal) e, w, s ∙ ap (λ (x : Started). written (samplerNumbers (x .sampler)) sampler) e);
-      short = λ h. absurd (omega arith);
+      made = λ h. (ap (λ (x : Started). x .refusal) e, w, subst (λ (x : Started). SamplerWritten (x .sampler) sampler unfinished sampler′ unfinished′) e s);
+      short = λ h. absurd (h room);
     }
 
-pub start-short : (B : ℕ) (low : Bool) (ws sampler : List ℕ) → length sampler < 4 → StartCall B low ws sampler 25 ws sampler
-start-short B low ws sampler h = record { made = λ m. absurd (omega arith); short = λ s. (refl, refl, refl) }
+pub start-short :
+    (B : ℕ) (low : Bool) (ws sampler unfinished : List ℕ) → (samplerRoom (length sampler) (length unfinished) ≡ 0 → ⊥)
+    → StartCall B low ws sampler unfinished 25 ws sampler unfinished
+start-short B low ws sampler unfinished some = record { made = λ m. absurd (some m); short = λ s. (refl, refl, refl, refl) }
 
 -- ---- feed
 
 pub feed-made :
-    (sampler ws piece : List ℕ) (given : Sampler) (a : Fed) (sampler′ ws′ : List ℕ)
-    → samplerUnread sampler ≡ 0
-    → given ≡ samplerOf sampler
-    → a ≡ fedOf given (length ws) (length piece)
-    → ws′ ≡ fedWords given ws piece
-    → sampler′ ≡ written (samplerNumbers (a .sampler)) sampler
-    → FeedCall sampler ws piece (a .refusal) sampler′ ws′
-feed-made sampler ws piece given a sampler′ ws′ room g e w s =
-    let f : a ≡ fedOf (samplerOf sampler) (length ws) (length piece) = e ∙ ap (λ (x : Sampler). fedOf x (length ws) (length piece)) g in
+    (sampler unfinished ws : List ℕ) (board : ℕ) (piece : List ℕ) (given : Head) (t : Taken) (bytes sampler′ unfinished′ ws′ : List ℕ)
+    → feedUnread sampler (length unfinished) ≡ 0
+    → given ≡ headOf sampler
+    → t ≡ takenOf given (length ws) board (length piece)
+    → bytes ≡ fedUnfinished given (length ws) (take 2048 unfinished) board piece
+    → ws′ ≡ fedWords given (take 2048 unfinished) ws board piece
+    → sampler′ ≡ written (samplerNumbers (nextHead (headOf sampler) board t)) sampler
+    → unfinished′ ≡ written bytes unfinished
+    → FeedCall sampler unfinished ws board piece (t .refusal) sampler′ unfinished′ ws′
+unfolding fedOf
+feed-made sampler unfinished ws board piece given t bytes sampler′ unfinished′ ws′ room g e b w s u =
+    let taken : t ≡ takenOf (headOf sampler) (length ws) board (length piece) = e ∙ ap (λ (x : Head). takenOf x (length ws) board (length piece)) g in
     record {
       made = λ h. (
-        ap (λ (x : Fed). x .refusal) f,
-        w ∙ ap (λ (x : Sampler). fedWords x ws piece) g,
-        s ∙ ap (λ (x : Fed). written (samplerNumbers (x .sampler)) sampler) f,
+        ap (λ (x : Taken). x .refusal) taken ∙ taken-refusal (headOf sampler) (length ws) board (length piece),
+        w ∙ ap (λ (x : Head). fedWords x (take 2048 unfinished) ws board piece) g,
+        record {
+          first =
+              s
+              ∙ ap (λ (x : Head). written (samplerNumbers x) sampler)
+              (ap (nextHead (headOf sampler) board) taken ∙ sym (head-is (headOf sampler) (length ws) board (length piece)));
+          second = u ∙ ap (λ (l : List ℕ). written l unfinished) (b ∙ ap (λ (x : Head). fedUnfinished x (length ws) (take 2048 unfinished) board piece) g);
+        },
       );
       refused = λ h. absurd (h room);
     }
 
-pub feed-unread : (sampler ws piece : List ℕ) (r : ℕ) → r ≡ samplerUnread sampler → (r ≡ 0 → ⊥) → FeedCall sampler ws piece r sampler ws
-feed-unread sampler ws piece r e some = record { made = λ m. absurd (some (e ∙ m)); refused = λ h. (e, refl, refl) }
+pub feed-unread :
+    (sampler unfinished ws : List ℕ) (board : ℕ) (piece : List ℕ) (r : ℕ) → r ≡ feedUnread sampler (length unfinished) → (r ≡ 0 → ⊥)
+    → FeedCall sampler unfinished ws board piece r sampler unfinished ws
+feed-unread sampler unfinished ws board piece r e some = record { made = λ m. absurd (some (e ∙ m)); refused = λ h. (e, refl, refl, refl) }
+
+-- ---- the carry-over
+
+pub carry-made :
+    (earlier ws sampler unfinished : List ℕ) (given : Earlier) (a : Carried) (ws′ sampler′ unfinished′ : List ℕ)
+    → carryUnread earlier (length sampler) (length unfinished) ≡ 0
+    → given ≡ earlierOf earlier
+    → a ≡ carriedOf given ws
+    → ws′ ≡ carriedWords given ws
+    → SamplerWritten (a .sampler) sampler unfinished sampler′ unfinished′
+    → CarryCall earlier ws sampler unfinished (a .refusal) ws′ sampler′ unfinished′
+carry-made earlier ws sampler unfinished given a ws′ sampler′ unfinished′ room g e w s =
+    let f : a ≡ carriedOf (earlierOf earlier) ws = e ∙ ap (λ (x : Earlier). carriedOf x ws) g in
+    record {
+      made = λ h. (
+        ap (λ (x : Carried). x .refusal) f,
+        w ∙ ap (λ (x : Earlier). carriedWords x ws) g,
+        subst (λ (x : Carried). SamplerWritten (x .sampler) sampler unfinished sampler′ unfinished′) f s,
+      );
+      refused = λ h. absurd (h room);
+    }
+
+pub carry-unread :
+    (earlier ws sampler unfinished : List ℕ) (r : ℕ) → r ≡ carryUnread earlier (length sampler) (length unfinished) → (r ≡ 0 → ⊥)
+    → CarryCall earlier ws sampler unfinished r ws sampler unfinished
+carry-unread earlier ws sampler unfinished r e some = record { made = λ m. absurd (some (e ∙ m)); refused = λ h. (e, refl, refl, refl) }
 
 -- ---- the search
 
@@ -97,15 +167,15 @@ answered a b finding finding′ e w =
     }
 
 pub bottomup-made :
-    (sampler ws : List ℕ) (first end k : ℕ) (store bins order finding : List ℕ) (given : Sampler) (a : Searched) (store′ bins′ order′ finding′ : List ℕ)
+    (sampler ws : List ℕ) (first end k : ℕ) (store bins order finding : List ℕ) (given : Head) (a : Searched) (store′ bins′ order′ finding′ : List ℕ)
     → searchUnread sampler (length finding) ≡ 0
-    → given ≡ samplerOf sampler
+    → given ≡ headOf sampler
     → BottomupSearch given ws first end k store bins order a store′ bins′ order′
     → finding′ ≡ written (findingNumbers (a .finding)) finding
     → BottomupCall sampler ws first end k store bins order finding (a .refusal) store′ bins′ order′ finding′
 bottomup-made sampler ws first end k store bins order finding given a store′ bins′ order′ finding′ room g d w =
-    let s : BottomupSearch (samplerOf sampler) ws first end k store bins order a store′ bins′ order′ =
-    subst (λ (x : Sampler). BottomupSearch x ws first end k store bins order a store′ bins′ order′) g d in
+    let s : BottomupSearch (headOf sampler) ws first end k store bins order a store′ bins′ order′ =
+    subst (λ (x : Head). BottomupSearch x ws first end k store bins order a store′ bins′ order′) g d in
     record {
       made = λ h. (
         record {

@@ -3,3 +3,4 @@ pub mod Writing
 pub mod Lending
 pub mod Calling
 pub mod Alone
+pub mod Numbers

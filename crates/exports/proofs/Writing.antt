@@ -52,14 +52,6 @@ three (x ∷ []) a b c h = absurd (omega arith)
 three (x ∷ y ∷ []) a b c h = absurd (omega arith)
 three (x ∷ y ∷ z ∷ l) a b c h = refl
 
--- four stores are four numbers written
-pub four-stores : (l : List ℕ) (a b c d : ℕ) → 4 ≤ length l → set (set (set (set l 0 a) 1 b) 2 c) 3 d ≡ written (a ∷ b ∷ c ∷ d ∷ []) l
-four-stores [] a b c d h = absurd (omega arith)
-four-stores (x ∷ []) a b c d h = absurd (omega arith)
-four-stores (x ∷ y ∷ []) a b c d h = absurd (omega arith)
-four-stores (x ∷ y ∷ z ∷ []) a b c d h = absurd (omega arith)
-four-stores (x ∷ y ∷ z ∷ w ∷ l) a b c d h = refl
-
 -- four stores, and bits after them
 pub four :
     (l bits : List ℕ) (a b c d : ℕ)

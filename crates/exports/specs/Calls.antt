@@ -6,9 +6,12 @@ use mathlib.Core.Bool.{Bool, cond}
 use mathlib.Core.List.{List, [], _∷_}
 use lib.Dec.{eqb}
 use lib.ListN.{length}
-use Rattle.counting.specs.Sampling.{startedOf, startedWords, blocksOf, fedOf, fedWords}
-use Rattle.counting.specs.Stretch.{stretchOf, stretchBit, span}
-use Rattle.counting.specs.declared.sampling.Sampler.{Sampler}
+use Rattle.counting.specs.Stretch.{stretchBit, span}
+use Rattle.sampling.specs.Carrying.{carriedOf, carriedWords}
+use Rattle.sampling.specs.Feeding.{fedOf, fedWords}
+use Rattle.sampling.specs.Sampler.{startedOf, startedWords, blocksOf}
+use Rattle.sampling.specs.Stretch.{stretchOf}
+use Rattle.sampling.specs.declared.sampler.Head.{Head}
 use Rattle.searching.specs.Refusal.{bottomupRefusal}
 use Rattle.searching.specs.Search.{answerOf, BottomupSearch}
 use Rattle.searching.specs.declared.finding.Searched.{Searched}
@@ -20,29 +23,42 @@ use Rattle.judging.specs.Split.{splitRefusal, firstPart, secondPart}
 use Rattle.sweeping.specs.Sweep.{sweptOf, roomOf, LentWhereRefused}
 use Rattle.exchange.specs.Reader.{readText}
 use Rattle.exchange.specs.Exchange.{Writes, Reads, readingOf}
-use Rattle.exports.specs.Records.{samplerNumbers, samplerOf, findingNumbers, findingRead, evaluatedNumbers, planNumbers, sweptNumbers, written, shortRecord, samplerUnread, searchUnread, findingUnread, evaluationUnread}
+use Rattle.exports.specs.Records.{findingNumbers, findingRead, evaluatedNumbers, planNumbers, sweptNumbers, written, shortRecord, findingUnread, evaluationUnread}
+use Rattle.exports.specs.Samplers.{headOf, samplerOf, earlierOf, SamplerWritten, samplerRoom, samplerUnread, feedUnread, searchUnread, carryUnread}
 
--- `start`, its sampler written to the slice
-pub record StartCall (B : ℕ) (low : Bool) (ws sampler : List ℕ) (r : ℕ) (ws′ sampler′ : List ℕ) : Type 0 where
+-- `start`, its sampler written to two slices
+pub record StartCall (B : ℕ) (low : Bool) (ws sampler unfinished : List ℕ) (r : ℕ) (ws′ sampler′ unfinished′ : List ℕ) : Type 0 where
   pub made :
-      4 ≤ length sampler
-      → (r ≡ startedOf B low (length ws) .refusal)
-      × (ws′ ≡ startedWords B ws)
-      × (sampler′ ≡ written (samplerNumbers (startedOf B low (length ws) .sampler)) sampler)
-  pub short : length sampler < 4 → (r ≡ shortRecord) × (ws′ ≡ ws) × (sampler′ ≡ sampler)
+      samplerRoom (length sampler) (length unfinished) ≡ 0
+      → let a = startedOf B low (length ws) in
+      (r ≡ a .refusal) × (ws′ ≡ startedWords B ws) × SamplerWritten (a .sampler) sampler unfinished sampler′ unfinished′
+  pub short :
+      (samplerRoom (length sampler) (length unfinished) ≡ 0 → ⊥) → (r ≡ shortRecord) × (ws′ ≡ ws) × (sampler′ ≡ sampler) × (unfinished′ ≡ unfinished)
 
--- `feed`, the sampler read from the slice and the one it returns written there
-pub record FeedCall (sampler ws piece : List ℕ) (r : ℕ) (sampler′ ws′ : List ℕ) : Type 0 where
+-- `feed`, the sampler read from two slices and the one it returns written there
+pub record FeedCall (sampler unfinished ws : List ℕ) (board : ℕ) (piece : List ℕ) (r : ℕ) (sampler′ unfinished′ ws′ : List ℕ) : Type 0 where
   pub made :
-      samplerUnread sampler ≡ 0
-      → (r ≡ fedOf (samplerOf sampler) (length ws) (length piece) .refusal)
-      × (ws′ ≡ fedWords (samplerOf sampler) ws piece)
-      × (sampler′ ≡ written (samplerNumbers (fedOf (samplerOf sampler) (length ws) (length piece) .sampler)) sampler)
-  pub refused : (samplerUnread sampler ≡ 0 → ⊥) → (r ≡ samplerUnread sampler) × (ws′ ≡ ws) × (sampler′ ≡ sampler)
+      feedUnread sampler (length unfinished) ≡ 0
+      → let s = samplerOf sampler unfinished in
+      let a = fedOf s (length ws) board piece in
+      (r ≡ a .refusal) × (ws′ ≡ fedWords (s .head) (s .unfinished) ws board piece) × SamplerWritten (a .sampler) sampler unfinished sampler′ unfinished′
+  pub refused :
+      (feedUnread sampler (length unfinished) ≡ 0 → ⊥)
+      → (r ≡ feedUnread sampler (length unfinished)) × (ws′ ≡ ws) × (sampler′ ≡ sampler) × (unfinished′ ≡ unfinished)
+
+-- `carry_over`, the sampler of the earlier rule read from one slice, and the one it returns written to two
+pub record CarryCall (earlier ws sampler unfinished : List ℕ) (r : ℕ) (ws′ sampler′ unfinished′ : List ℕ) : Type 0 where
+  pub made :
+      carryUnread earlier (length sampler) (length unfinished) ≡ 0
+      → let a = carriedOf (earlierOf earlier) ws in
+      (r ≡ a .refusal) × (ws′ ≡ carriedWords (earlierOf earlier) ws) × SamplerWritten (a .sampler) sampler unfinished sampler′ unfinished′
+  pub refused :
+      (carryUnread earlier (length sampler) (length unfinished) ≡ 0 → ⊥)
+      → (r ≡ carryUnread earlier (length sampler) (length unfinished)) × (ws′ ≡ ws) × (sampler′ ≡ sampler) × (unfinished′ ≡ unfinished)
 
 -- n of the sampler read from the slice; 0 where it holds none
 unfoldable pub blocksCall : List ℕ → ℕ
-blocksCall sampler = cond (eqb (samplerUnread sampler) 0) (blocksOf (samplerOf sampler)) 0
+blocksCall sampler = cond (eqb (samplerUnread sampler) 0) (blocksOf (headOf sampler)) 0
 
 -- the answer a: its refusal r returned, its finding written
 pub record Answered (a : Searched) (finding : List ℕ) (r : ℕ) (finding′ : List ℕ) : Type 0 where
@@ -50,17 +66,17 @@ pub record Answered (a : Searched) (finding : List ℕ) (r : ℕ) (finding′ : 
   pub wrote : finding′ ≡ written (findingNumbers (a .finding)) finding
 
 -- what `bottomup` answers, whatever store it is lent
-abbrev pub bottomupAnswer : Sampler → List ℕ → ℕ → ℕ → ℕ → List ℕ → List ℕ → Searched
+abbrev pub bottomupAnswer : Head → List ℕ → ℕ → ℕ → ℕ → List ℕ → List ℕ → Searched
 bottomupAnswer s ws first end k bins order =
     let x = stretchOf s (length ws) first end in
     answerOf (bottomupRefusal s (length ws) first end k (length bins) (length order)) (s .«low_first») (stretchBit x ws) (span x) (s .«block_size») k
 
--- `bottomup`, the sampler read from one slice and the finding written to another
+-- `bottomup`, the sampler's numbers read from one slice and the finding written to another
 pub record BottomupCall (sampler ws : List ℕ) (first end k : ℕ) (store bins order finding : List ℕ) (r : ℕ) (store′ bins′ order′ finding′ : List ℕ) : Type 0 where
   pub made :
       searchUnread sampler (length finding) ≡ 0
-      → BottomupSearch (samplerOf sampler) ws first end k store bins order (bottomupAnswer (samplerOf sampler) ws first end k bins order) store′ bins′ order′
-      × Answered (bottomupAnswer (samplerOf sampler) ws first end k bins order) finding r finding′
+      → BottomupSearch (headOf sampler) ws first end k store bins order (bottomupAnswer (headOf sampler) ws first end k bins order) store′ bins′ order′
+      × Answered (bottomupAnswer (headOf sampler) ws first end k bins order) finding r finding′
   pub refused :
       (searchUnread sampler (length finding) ≡ 0 → ⊥)
       → (r ≡ searchUnread sampler (length finding)) × (store′ ≡ store) × (bins′ ≡ bins) × (order′ ≡ order) × (finding′ ≡ finding)

@@ -5,7 +5,6 @@ use mathlib.Core.List.{List, [], _∷_, _++_}
 use lib.Dec.{leb, eqb}
 use lib.Ieee.{binary64, toBits}
 use lib.ListN.{length, getD, take, drop}
-use Rattle.counting.specs.declared.sampling.Sampler.{Sampler}
 use Rattle.ranking.specs.Ranking.{zeroScore}
 use Rattle.subsets.specs.Subsets.{padded}
 use Rattle.searching.specs.declared.finding.Finding.{Finding}
@@ -20,14 +19,6 @@ use Rattle.sweeping.specs.declared.sweep.Swept.{Swept}
 -- a bit order: 1 where the low bit comes first, 0 where the high bit does
 abbrev pub orderNumber : Bool → ℕ
 orderNumber low = cond low 1 0
-
--- a sampler: its block size, its number of words, the bytes taken, its bit order
-abbrev pub samplerNumbers : Sampler → List ℕ
-samplerNumbers s = s .«block_size» ∷ s .words ∷ s .taken ∷ orderNumber (s .«low_first») ∷ []
-
--- the sampler whose numbers stand first
-abbrev pub samplerOf : List ℕ → Sampler
-samplerOf l = record { «block_size» = getD l 0 0; words = getD l 1 0; taken = getD l 2 0; «low_first» = eqb (getD l 3 0) 1 }
 
 -- a finding: its block size, width, division, the bits of its z as a double, its 20 bit entries, its bit order
 abbrev pub findingNumbers : Finding → List ℕ
@@ -44,14 +35,6 @@ shortRecord = 25
 -- 27, also outside the rules': the number for a record's bit order is neither 0 nor 1, so that it is no record
 abbrev pub bitOrderRefusal : ℕ → ℕ
 bitOrderRefusal n = cond (leb n 1) 0 27
-
--- a slice that a sampler is read from: 25, 27
-unfoldable pub samplerUnread : List ℕ → ℕ
-samplerUnread l = cond (leb 4 (length l)) (bitOrderRefusal (getD l 3 0)) shortRecord
-
--- .. and a slice of `room` numbers that a finding is written to: 25 of either, 27
-unfoldable pub searchUnread : List ℕ → ℕ → ℕ
-searchUnread l room = cond (leb 25 room) (samplerUnread l) shortRecord
 
 -- a slice that a finding is read from: 25, 27
 unfoldable pub findingUnread : List ℕ → ℕ

@@ -1,12 +1,12 @@
 // The calls for hosts in other languages: numbers and slices only. A slice passes as its address and its number of entries.
-// A sampler is 4 numbers in a lent slice, a finding 25, a sweep 60 (`specs/Records.antt`); a slice too short for its record is answered with 25, a record
-// whose number for the bit order is neither 0 nor 1 with 27, and nothing is written.
+// A sampler is 8 numbers in a lent slice and 2,048 bytes in another (`specs/Samplers.antt`), a finding 25 numbers, a sweep 60 (`specs/Records.antt`); a slice too
+// short for its record is answered with 25, a record whose number for the bit order is neither 0 nor 1 with 27, and nothing is written.
 ghost use mathlib.Core.Path.{_≡_};
 ghost use lib.ListN.{length};
 ghost use Rattle.layers.specs.Store.{storeNeeded};
 ghost use Rattle.subsets.specs.Rank.{rankedOf};
 ghost use Rattle.exchange.specs.Length.{longestText};
-ghost use Rattle.exports.specs.Calls.{StartCall, FeedCall, blocksCall, BottomupCall, CheckCall, EvaluateCall, WriteCall, ReadCall, SplitCall, PlanCall, BracketCall, SweepCall};
+ghost use Rattle.exports.specs.Calls.{StartCall, FeedCall, CarryCall, blocksCall, BottomupCall, CheckCall, EvaluateCall, WriteCall, ReadCall, SplitCall, PlanCall, BracketCall, SweepCall};
 ghost use Rattle.exports.specs.Single.{RankingCall};
 use crate::findings::evaluate_lent;
 use crate::findings::validate_lent;
@@ -15,21 +15,23 @@ use crate::records::evaluation_unread;
 use crate::records::finding_unread;
 use crate::records::pattern;
 use crate::records::rank_of;
-use crate::records::read_sampler;
-use crate::records::sampler_unread;
-use crate::records::search_unread;
 use crate::records::write_evaluated;
 use crate::records::write_finding;
 use crate::records::write_plan;
-use crate::records::write_sampler;
 use crate::records::write_swept;
+use crate::samplers::carry_unread;
+use crate::samplers::feed_unread;
+use crate::samplers::read_earlier;
+use crate::samplers::read_head;
+use crate::samplers::sampler_room;
+use crate::samplers::sampler_unread;
+use crate::samplers::search_unread;
+use crate::samplers::write_sampler;
+use crate::samplers::write_taken;
 use crate::single::ranking_refusal;
 use crate::single::total_of;
 use chance::bracket::bracket;
 use counting::block::bin_count;
-use counting::sampling::blocks;
-use counting::sampling::feed;
-use counting::sampling::start;
 use exchange::reader::read_finding;
 use exchange::writer::longest_text;
 use judging::plan::configurations;
@@ -38,11 +40,16 @@ use judging::split::second_part;
 use judging::split::split_refusal;
 use layers::size::store_needed;
 use ranking::ranking::from_bins;
+use sampling::carrying::carry_over;
+use sampling::feeding::feed_lent;
+use sampling::sampler::blocks;
+use sampling::sampler::start;
 use searching::search::bottomup;
 use sweeping::sweep::sweep;
 
 mod findings;
 mod records;
+mod samplers;
 mod single;
 
 // start: clears the words and writes a fresh sampler in the given bit order. Refusals 25, 1.
@@ -52,32 +59,64 @@ pub extern "C" fn jimrawel_start(
     low_first: bool,
     words: &mut [u64],
     sampler: &mut [u64],
+    unfinished: &mut [u8],
 ) -> u32
-    ensures { λ r. ⌜ StartCall «block_size» «low_first» (now (words .entry)) (now (sampler .entry)) r (now (words .exit)) (now (sampler .exit)) ⌝ }
+    ensures { λ r. ⌜ StartCall «block_size» «low_first» (now (words .entry)) (now (sampler .entry)) (now (unfinished .entry)) r (now (words .exit)) (now (sampler .exit)) (now (unfinished .exit)) ⌝ }
 {
-    if sampler.len() < 4 {
+    if sampler_room(sampler.len(), unfinished.len()) != 0 {
         return 25;
     }
     let started = start(block_size, low_first, words);
-    write_sampler(started.sampler, sampler);
+    write_sampler(started.sampler, sampler, unfinished);
     started.refusal
 }
 
-// feed: takes the next piece; the sampler that it returns is in the place of the one given. Refusals 25, 27, 4, 5.
+// feed: takes the board's next piece; the sampler that it returns is in the place of the one given. Refusals 25, 27, 4, 21, 5.
 #[no_mangle]
-pub extern "C" fn jimrawel_feed(sampler: &mut [u64], words: &mut [u64], piece: &[u8]) -> u32
-    ensures { λ r. ⌜ FeedCall (now (sampler .entry)) (now (words .entry)) (now (piece .entry)) r (now (sampler .exit)) (now (words .exit)) ⌝ }
+pub extern "C" fn jimrawel_feed(
+    sampler: &mut [u64],
+    unfinished: &mut [u8],
+    words: &mut [u64],
+    board: usize,
+    piece: &[u8],
+) -> u32
+    ensures { λ r. ⌜ FeedCall (now (sampler .entry)) (now (unfinished .entry)) (now (words .entry)) board (now (piece .entry)) r (now (sampler .exit)) (now (unfinished .exit)) (now (words .exit)) ⌝ }
 {
-    let unread = sampler_unread(sampler);
+    let unread = feed_unread(sampler, unfinished.len());
     if unread != 0 {
         return unread;
     }
-    let fed = feed(read_sampler(sampler), words, piece);
-    write_sampler(fed.sampler, sampler);
-    fed.refusal
+    let taken = feed_lent(
+        read_head(sampler),
+        &mut unfinished[..2048],
+        words,
+        board,
+        piece,
+    );
+    write_taken(taken, board, sampler);
+    taken.refusal
 }
 
-// n: the whole blocks that the sampler has taken; 0 where the slice holds none.
+// carry_over: writes the sampler that goes on from one of the earlier rule. Refusals 25, 27, 4.
+#[no_mangle]
+pub extern "C" fn jimrawel_carry_over(
+    earlier: &[u64],
+    words: &mut [u64],
+    sampler: &mut [u64],
+    unfinished: &mut [u8],
+) -> u32
+    ensures { λ r. ⌜ CarryCall (now (earlier .entry)) (now (words .entry)) (now (sampler .entry)) (now (unfinished .entry)) r (now (words .exit)) (now (sampler .exit)) (now (unfinished .exit)) ⌝ }
+{
+    let unread = carry_unread(earlier, sampler.len(), unfinished.len());
+    if unread != 0 {
+        return unread;
+    }
+    let carried = carry_over(read_earlier(earlier), words);
+    write_sampler(carried.sampler, sampler, unfinished);
+    carried.refusal
+}
+
+// n: the blocks that the sampler has completed; 0 where the slice holds none.
 #[no_mangle]
 pub extern "C" fn jimrawel_blocks(sampler: &[u64]) -> usize
     ensures { λ r. ⌜ r ≡ blocksCall (now (sampler .entry)) ⌝ }
@@ -85,7 +124,7 @@ pub extern "C" fn jimrawel_blocks(sampler: &[u64]) -> usize
     if sampler_unread(sampler) != 0 {
         return 0;
     }
-    blocks(read_sampler(sampler))
+    blocks(read_head(sampler))
 }
 
 // The search of the blocks from `first` to before `end`, with a store of any length. Refusals 25, 27, 4, 18, 2, 3, 7.
@@ -107,16 +146,7 @@ pub extern "C" fn jimrawel_bottomup(
     if unread != 0 {
         return unread;
     }
-    let searched = bottomup(
-        read_sampler(sampler),
-        words,
-        first,
-        end,
-        k,
-        store,
-        bins,
-        order,
-    );
+    let searched = bottomup(read_head(sampler), words, first, end, k, store, bins, order);
     write_finding(searched.finding, finding);
     searched.refusal
 }

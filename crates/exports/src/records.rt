@@ -6,8 +6,7 @@ ghost use lib.Ieee.{binary64, toBits};
 ghost use lib.ListN.{length, take, drop, replicate};
 ghost use Rattle.subsets.specs.Rank.{rankedOf};
 ghost use Rattle.sweeping.specs.Verdict.{verdictNumber};
-ghost use Rattle.exports.specs.Records.{orderNumber, samplerOf, samplerNumbers, findingNumbers, scoreCase, scoreBits, evaluatedNumbers, planNumbers, testedNumbers, sweptNumbers, written, samplerUnread, searchUnread, findingUnread, evaluationUnread};
-use counting::sampling::Sampler;
+ghost use Rattle.exports.specs.Records.{orderNumber, findingNumbers, scoreCase, scoreBits, evaluatedNumbers, planNumbers, testedNumbers, sweptNumbers, written, findingUnread, evaluationUnread};
 use judging::evaluation::Evaluated;
 use judging::evaluation::Score;
 use judging::plan::Plan;
@@ -17,29 +16,6 @@ use subsets::rank::compute_index;
 use sweeping::pair::Tested;
 use sweeping::sweep::Swept;
 use sweeping::verdict::Verdict;
-
-// 25, 27, or 0 where a sampler can be read from the slice.
-pub fn sampler_unread(numbers: &[u64]) -> u32
-    ensures { λ r. ⌜ r ≡ samplerUnread (now (numbers .entry)) ⌝ }
-{
-    if numbers.len() < 4 {
-        return 25;
-    }
-    if numbers[3] > 1 {
-        return 27;
-    }
-    0
-}
-
-// 25, 27, or 0 where a sampler can be read from the slice and a finding written to one of `room` numbers.
-pub fn search_unread(numbers: &[u64], room: usize) -> u32
-    ensures { λ r. ⌜ r ≡ searchUnread (now (numbers .entry)) room ⌝ }
-{
-    if room < 25 {
-        return 25;
-    }
-    sampler_unread(numbers)
-}
 
 // 25, 27, or 0 where a finding can be read from the slice.
 pub fn finding_unread(numbers: &[u64]) -> u32
@@ -64,32 +40,8 @@ pub fn evaluation_unread(numbers: &[u64], room: usize) -> u32
     finding_unread(numbers)
 }
 
-// The sampler whose numbers stand first in the slice.
-pub fn read_sampler(numbers: &[u64]) -> Sampler
-    requires { ⌜ 4 ≤ length (now numbers) ⌝ }
-    ensures { λ r. ⌜ r ≡ samplerOf (now (numbers .entry)) ⌝ }
-{
-    Sampler {
-        block_size: numbers[0] as usize,
-        words: numbers[1] as usize,
-        taken: numbers[2] as usize,
-        low_first: numbers[3] == 1,
-    }
-}
-
-// Puts the sampler's numbers first.
-pub fn write_sampler(sampler: Sampler, numbers: &mut [u64])
-    requires { ⌜ 4 ≤ length (now numbers) ⌝ }
-    ensures { λ _. ⌜ now (numbers .exit) ≡ written (samplerNumbers sampler) (now (numbers .entry)) ⌝ }
-{
-    numbers[0] = sampler.block_size as u64;
-    numbers[1] = sampler.words as u64;
-    numbers[2] = sampler.taken as u64;
-    numbers[3] = order_number(sampler.low_first);
-}
-
 // 1 where the low bit comes first, else 0.
-fn order_number(low_first: bool) -> u64
+pub fn order_number(low_first: bool) -> u64
     ensures { λ r. ⌜ r ≡ orderNumber «low_first» ⌝ }
 {
     if low_first { 1 } else { 0 }
@@ -200,7 +152,7 @@ pub fn write_plan(plan: Plan, numbers: &mut [u64])
 }
 
 // Puts the sizes at a place.
-fn write_sizes(sizes: &[usize], at: usize, numbers: &mut [u64])
+pub fn write_sizes(sizes: &[usize], at: usize, numbers: &mut [u64])
     requires { ⌜ at + length (now sizes) ≤ length (now numbers) ⌝ }
     ensures { λ _. ⌜ now (numbers .exit) ≡ (take at (now (numbers .entry)) ++ now (sizes .entry)) ++ drop (at + length (now (sizes .entry))) (now (numbers .entry)) ⌝ }
 {

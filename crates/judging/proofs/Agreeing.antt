@@ -8,12 +8,11 @@ use native.Mathlib.Omega.{arith}
 use lib.ListN.{length, take}
 use borrow.Author.Tests.{le-leb, lt-ltb, eq-eqb}
 use Rattle.counting.specs.Block.{validSize}
-use Rattle.counting.specs.Recording.{recording, blocksIn, recordedBit}
+use Rattle.counting.specs.Recording.{blocksIn, recordedBit}
 use Rattle.counting.specs.Sample.{total}
 use Rattle.counting.specs.Stretch.{stretchBytes}
-use Rattle.counting.proofs.Accepted.{valid-facts, room-blocks}
 use Rattle.counting.proofs.Alone.{stretches-alone}
-use Rattle.counting.proofs.Recorded.{all-recorded}
+use Rattle.sampling.specs.Boards.{recording}
 use Rattle.scoring.specs.Halves.{part}
 use Rattle.scoring.specs.Score.{zScore, abs}
 use Rattle.ranking.specs.Order.{orderOf}
@@ -25,7 +24,7 @@ use Rattle.subsets.proofs.Refusing.{valid-width}
 use Rattle.subsets.proofs.Testing.{not-refused}
 use Rattle.searching.proofs.Filled.{length-counts}
 use Rattle.searching.proofs.Refusing.{bottomup-free, said-is}
-use Rattle.searching.proofs.Claiming.{claims, acquired-valid}
+use Rattle.searching.proofs.Claiming.{claims, acquired-valid, recorder}
 use Rattle.searching.proofs.Stretches.{whole-recordings, best-alone}
 use Rattle.searching.specs.Claim.{BestOf}
 use Rattle.searching.specs.Refusal.{bottomupRefusal}
@@ -106,15 +105,14 @@ findings-agree B low held k f bins order scratch W K L M S best =
 -- ---- after an acquisition
 
 pub all-agree : AllAgree
-all-agree B low ws pieces answers s ws′ acquired first end k store bins order r store′ bins′ order′ S z scratch room =
-    let held = recording B (length ws) pieces in
+all-agree B low ws old feeds answers s ws′ acquired first end k store bins order r store′ bins′ order′ S z scratch room =
+    let held = recording B (length ws) old feeds in
     let valid = acquired-valid acquired in
-    let d = bottomupRefusal s (length ws′) first end k (length bins) (length order) in
-    let f = bottomup-free s (length ws′) first end k (length bins) (length order) (sym (said-is d _ _ _ _ k r (S .search .answered)) ∙ z) .search in
-    let has : end ≤ blocksIn B held = omega (arith, f .ordered .held, whole-recordings B low ws pieces answers s ws′ acquired .blocks) in
-    let all : blocksIn B held ≤ 16777216 =
-    le-trans (room-blocks B (length ws) (length held) (valid-facts B valid) (all-recorded B low ws valid pieces .holds .within)) (min-le-right _ _) in
+    let d = bottomupRefusal (s .head) (length ws′) first end k (length bins) (length order) in
+    let f = bottomup-free (s .head) (length ws′) first end k (length bins) (length order) (sym (said-is d _ _ _ _ k r (S .search .answered)) ∙ z) .search in
+    let has : end ≤ blocksIn B held = omega (arith, f .ordered .held, whole-recordings B low ws old feeds answers s ws′ acquired .blocks) in
+    let all : blocksIn B held ≤ 16777216 = le-trans (recorder acquired .within) (min-le-right _ _) in
     let few : blocksIn B (stretchBytes B held first end) ≤ 16777216 = omega (arith, stretches-alone B low held first end valid (f .ordered .order) has .blocks) in
-    let best = claims B low ws pieces answers s ws′ acquired .search first end k store bins order r store′ bins′ order′ S .best z in
+    let best = claims B low ws old feeds answers s ws′ acquired .search first end k store bins order r store′ bins′ order′ S .best z in
     findings-agree B low (stretchBytes B held first end) k (r .finding) bins′ order′ scratch valid (f .width .some) (f .width .width) few room
     (best-alone B low held first end k (r .finding) bins′ order′ valid (f .ordered .order) has best)

@@ -1,93 +1,50 @@
 -- The search of the training bytes: the words hold them, and what is best in the recording is the definition's.
-use mathlib.Core.Path.{_≡_, sym, ap, subst, _∙_}
-use mathlib.Core.Bool.{Bool, true, false, not}
+use mathlib.Core.Path.{_≡_, sym, subst, _∙_}
+use mathlib.Core.Bool.{Bool, true}
 use mathlib.Core.List.{List, [], _∷_}
-use mathlib.Core.Logic.{_⊎_, inl, inr}
-use Prim.Native.Nat.{ℕ, _+_, _^_, _≤_, zero-le}
+use Prim.Native.Nat.{ℕ, _+_, _≤_, zero-le}
 use native.Mathlib.Omega.{arith}
-use lib.Dec.{T}
-use lib.Ieee.{Float, lt}
-use lib.ListN.{length, take}
+use lib.ListN.{length}
 use borrow.Author.Tests.{le-leb}
 use Rattle.counting.specs.Block.{validSize}
-use Rattle.counting.specs.Recording.{capacityBytes, recording, heldFrom, heldAfter, blocksIn, recordedBit}
-use Rattle.counting.specs.Sample.{countsOf}
-use Rattle.counting.specs.Sampling.{startedOf, blocksOf}
-use Rattle.ranking.specs.Order.{orderOf}
-use Rattle.ranking.specs.Ranking.{scoreOf}
-use Rattle.ranking.specs.declared.ranking.Ranking.{Ranking}
-use Rattle.subsets.specs.Best.{Beats, Optimal}
-use Rattle.subsets.specs.Subsets.{Subset, padded}
-use Rattle.searching.specs.Claim.{BestOf}
-use Rattle.searching.specs.Finding.{winnerOf, zOf}
+use Rattle.counting.specs.Recording.{capacityBytes, blocksIn, recordedBit}
+use Rattle.sampling.specs.Boards.{refusalsFrom, onBoard, carried}
+use Rattle.sampling.specs.Earlier.{pieceRefusal, heldAfter, heldFrom, pieceRefusals, earlierRecording}
+use Rattle.sampling.specs.Sampler.{startedOf, blocksOf}
+use Rattle.sampling.proofs.Sole.{all-sole}
+use Rattle.searching.specs.Claim.{Best, BestOf}
 use Rattle.searching.specs.declared.finding.Finding.{Finding}
-use Rattle.searching.proofs.Claiming.{claims}
-use Rattle.searching.proofs.Stretches.{whole-recordings}
-use Rattle.searching.proofs.Walking.{scores, z-number, by-z}
+use Rattle.searching.proofs.Boards.{sole-claims}
+use Rattle.searching.proofs.Stretches.{from-none}
+use Rattle.searching.proofs.Winning.{best-found}
 use Rattle.judging.specs.Training.{chosenOf, trainedOf, trainedOrder, Trained, TrainingFound}
 
-all-held : (B words : ℕ) (bytes : List ℕ) → length bytes ≤ capacityBytes B words → recording B words (bytes ∷ []) ≡ bytes
+-- ---- one piece that fits is taken, by the earlier rule too
+
+all-held : (B words : ℕ) (bytes : List ℕ) → length bytes ≤ capacityBytes B words → earlierRecording B words (bytes ∷ []) ≡ bytes
 unfolding heldFrom heldAfter
 all-held B words bytes h =
     let fits : 0 + length bytes ≤ capacityBytes B words = omega arith in
     simp (le-leb _ _ fits)
 
+not-refused : (B words : ℕ) (bytes : List ℕ) → length bytes ≤ capacityBytes B words → pieceRefusals B words [] (bytes ∷ []) ≡ 0 ∷ []
+unfolding pieceRefusals pieceRefusal
+not-refused B words bytes h =
+    let fits : 0 + length bytes ≤ capacityBytes B words = omega arith in
+    simp (le-leb _ _ fits)
+
+earlier-takes : (B words : ℕ) (bytes : List ℕ) → validSize B ≡ true → pieceRefusals B words [] (bytes ∷ []) ≡ 0 ∷ []
+    → refusalsFrom B words (carried B []) (onBoard 0 (bytes ∷ [])) ≡ 0 ∷ []
+unfolding heldFrom
+earlier-takes B words bytes ok none = all-sole B words ok [] (bytes ∷ []) .taken none
+
 -- ---- the best of the recording is the definition's
 
-not-T : (b : Bool) → (T b → ⊥) → T (not b)
-not-T true h = absurd (h tt)
-not-T false h = tt
-
-module _ (B : ℕ) (low : Bool) (held : List ℕ) (k : ℕ) (f : Finding) (bins order : List ℕ) (best : BestOf B low held k f bins order) where
-  abbrev n : ℕ
-  n = blocksIn B held
-
-  abbrev bit : ℕ → ℕ → ℕ
-  bit = recordedBit B low held
-
-  abbrev s : List ℕ
-  s = take k (f .bits)
-
-  score-is : scoreOf n k (take (2 ^ k) bins) ≡ scoreOf n (length s) (countsOf bit n s)
-  score-is = λ i. scoreOf n (sym (best .chosen .size) i) (best .counted i)
-
-  z-is : f .z ≡ zOf bit n s
-  z-is = best .z ∙ ap (λ (r : Ranking). r .z) score-is
-
-  level : (t : List ℕ) → zOf bit n t ≡ zOf bit n s → T (not (lt (zOf bit n s) (zOf bit n t))) × T (not (lt (zOf bit n t) (zOf bit n s)))
-  level t e =
-      let a = zOf bit n s in
-      let same : T (not (lt a a)) = not-T (lt a a) (λ x. scores .asym a a (z-number bit n s) (z-number bit n s) x x) in
-      (subst (λ (x : Float). T (not (lt a x))) (sym e) same, subst (λ (x : Float). T (not (lt x a))) (sym e) same)
-
-  beats-is : (t : List ℕ) → Subset B k t → (t ≡ s) ⊎ Beats lt (zOf bit n) s t
-  beats-is t X = elim (best .beats t X) [
-    | inl e ↦ inl e
-    | inr (inl l) ↦ inr (inl (subst (λ (x : Float). T (lt (zOf bit n t) x)) z-is l))
-    | inr (inr (e, l)) ↦ inr (inr (level t (e ∙ z-is) .0, level t (e ∙ z-is) .1, l))
-  ]
-
-  optimal : Optimal lt (zOf bit n) B k s
-  optimal = record { subset = best .chosen; beats = beats-is }
-
-  chosen-is : s ≡ chosenOf B low k held
-  unfolding chosenOf winnerOf
-  chosen-is = by-z bit n B k .unique s optimal
-
-  trained : Trained B low k held f order
-  unfolding trainedOf trainedOrder
-  trained =
-      let W = chosenOf B low k held in
-      let score : scoreOf n k (take (2 ^ k) bins) ≡ scoreOf n (length W) (countsOf bit n W) =
-      score-is ∙ ap (λ (t : List ℕ). scoreOf n (length t) (countsOf bit n t)) chosen-is in
-      let width : f .width ≡ length W = best .width ∙ sym (best .chosen .size) ∙ ap length chosen-is in
-      let bits : f .bits ≡ padded W = best .zeros ∙ ap padded chosen-is in
-      let division : f .division ≡ scoreOf n (length W) (countsOf bit n W) .division = best .division ∙ ap (λ (r : Ranking). r .division) score in
-      let z : f .z ≡ scoreOf n (length W) (countsOf bit n W) .z = best .z ∙ ap (λ (r : Ranking). r .z) score in
-      record {
-        found = λ i. record { «block_size» = best .block i; width = width i; bits = bits i; division = division i; z = z i; «low_first» = best .bitOrder i };
-        ordered = best .ordered ∙ ap orderOf (best .counted ∙ ap (countsOf bit n) chosen-is);
-      }
+trained : (B : ℕ) (low : Bool) (held : List ℕ) (k : ℕ) (f : Finding) (bins order : List ℕ) → BestOf B low held k f bins order → Trained B low k held f order
+unfolding chosenOf trainedOf trainedOrder
+trained B low held k f bins order best =
+    let F = best-found low (recordedBit B low held) (blocksIn B held) B k f bins order best in
+    record { found = F .finding; ordered = F .ordered }
 
 -- ---- an acquisition of one feed, and a search after it
 
@@ -96,12 +53,20 @@ unfolding startedOf
 started-free B low words ok = rw ok
 
 pub training-found : TrainingFound
+unfolding heldFrom
 training-found B low k ws bytes answers sampler ws′ acquired store bins order t r store′ bins′ order′ search =
-    let claim = claims B low ws (bytes ∷ []) answers sampler ws′ acquired .search 0 (blocksOf sampler) k store bins order r store′ bins′ order′ search in
-    let whole = whole-recordings B low ws (bytes ∷ []) answers sampler ws′ acquired in
-    let free : r .refusal ≡ 0 = claim .succeeds zero-le (omega (arith, whole .blocks)) (t .some, t .width, t .chosen, t .room .0, t .room .1) in
-    let held : recording B (length ws) (bytes ∷ []) ≡ bytes = all-held B (length ws) bytes (t .held) in (
+    let words = length ws in
+    let none : pieceRefusals B words [] (bytes ∷ []) ≡ 0 ∷ [] = not-refused B words bytes (t .held) in
+    let alike : refusalsFrom B words (carried B []) (onBoard 0 (bytes ∷ [])) ≡ pieceRefusals B words [] (bytes ∷ []) = earlier-takes B words bytes (t .valid) none ∙ sym none in
+    let sole = sole-claims B low ws [] (bytes ∷ []) answers sampler ws′ acquired alike in
+    let n = blocksOf (sampler .head) in
+    let held : earlierRecording B words (bytes ∷ []) ≡ bytes = all-held B words bytes (t .held) in
+    let claim = sole .search 0 n k store bins order r store′ bins′ order′ search in
+    let free : r .refusal ≡ 0 = claim .succeeds zero-le (omega (arith, sole .blocks)) (t .some, t .width, t .chosen, t .room .0, t .room .1) in
+    let bit = recordedBit B low (earlierRecording B words (bytes ∷ [])) in
+    let best : BestOf B low (earlierRecording B words (bytes ∷ [])) k (r .finding) bins′ order′ =
+    subst (λ (m : ℕ). Best low bit m B k (r .finding) bins′ order′) (sole .blocks)
+    (from-none (λ g m. Best low g m B k (r .finding) bins′ order′) bit n (claim .best free)) in (
       free,
-      trained B low bytes k (r .finding) bins′ order′
-          (subst (λ (h : List ℕ). BestOf B low h k (r .finding) bins′ order′) held (whole .best k (r .finding) bins′ order′ (claim .best free))),
+      trained B low bytes k (r .finding) bins′ order′ (subst (λ (h : List ℕ). BestOf B low h k (r .finding) bins′ order′) held best),
     )

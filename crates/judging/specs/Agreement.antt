@@ -5,10 +5,11 @@ use mathlib.Core.List.{List}
 use Prim.Native.Nat.{ℕ, _^_, _≤_}
 use lib.ListN.{length, take}
 use Rattle.counting.specs.Block.{validSize}
-use Rattle.counting.specs.Recording.{blocksIn, recording}
+use Rattle.counting.specs.Recording.{blocksIn}
 use Rattle.counting.specs.Sample.{total}
 use Rattle.counting.specs.Stretch.{stretchBytes}
-use Rattle.counting.specs.declared.sampling.Sampler.{Sampler}
+use Rattle.sampling.specs.Boards.{Feed, recording}
+use Rattle.sampling.specs.declared.sampler.Sampler.{Sampler}
 use Rattle.ranking.specs.Ranking.{inBinOrder}
 use Rattle.scoring.specs.Score.{abs}
 use Rattle.searching.specs.Claim.{Acquisition, BestOf}
@@ -35,11 +36,11 @@ FindingsAgree =
     → validSize B ≡ true → 1 ≤ k → k ≤ 20 → blocksIn B held ≤ 16777216 → 2 ^ k ≤ scratch
     → BestOf B low held k f bins order → Agrees B held k f bins order scratch
 
--- Theorem: it holds of what a search leaves after a start that is not refused and any feeds, where the search is not refused, and of the bytes of its
+-- Theorem: it holds of what a search leaves after an acquisition, where the search is not refused, and of the bytes of its
 -- stretch of the recording.
 abbrev pub AllAgree : Type 0
 AllAgree =
-    (B : ℕ) (low : Bool) (ws : List ℕ) (pieces : List (List ℕ)) (answers : List ℕ) (s : Sampler) (ws′ : List ℕ) → Acquisition B low ws pieces answers s ws′
+    (B : ℕ) (low : Bool) (ws : List ℕ) (old : List (List ℕ)) (feeds : List Feed) (answers : List ℕ) (s : Sampler) (ws′ : List ℕ) → Acquisition B low ws old feeds answers s ws′
     → (first end k : ℕ) (store bins order : List ℕ) (r : Searched) (store′ bins′ order′ : List ℕ)
-    → BottomupSearch s ws′ first end k store bins order r store′ bins′ order′ → r .refusal ≡ 0
-    → (scratch : ℕ) → 2 ^ k ≤ scratch → Agrees B (stretchBytes B (recording B (length ws) pieces) first end) k (r .finding) bins′ order′ scratch
+    → BottomupSearch (s .head) ws′ first end k store bins order r store′ bins′ order′ → r .refusal ≡ 0
+    → (scratch : ℕ) → 2 ^ k ≤ scratch → Agrees B (stretchBytes B (recording B (length ws) old feeds) first end) k (r .finding) bins′ order′ scratch

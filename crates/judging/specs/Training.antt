@@ -7,8 +7,9 @@ use lib.ListN.{length, take}
 use Rattle.counting.specs.Block.{validSize}
 use Rattle.counting.specs.Recording.{capacityBytes, blocksIn, recordedBit}
 use Rattle.counting.specs.Sample.{countsOf}
-use Rattle.counting.specs.Sampling.{blocksOf}
-use Rattle.counting.specs.declared.sampling.Sampler.{Sampler}
+use Rattle.sampling.specs.Boards.{onBoard}
+use Rattle.sampling.specs.Sampler.{blocksOf}
+use Rattle.sampling.specs.declared.sampler.Sampler.{Sampler}
 use Rattle.ranking.specs.Order.{orderOf}
 use Rattle.searching.specs.Claim.{Acquisition}
 use Rattle.searching.specs.Finding.{winnerOf, findingOf}
@@ -44,12 +45,12 @@ pub record Trained (B : ℕ) (low : Bool) (k : ℕ) (bytes : List ℕ) (f : Find
   pub found : f ≡ trainedOf B low k bytes
   pub ordered : take (2 ^ k) order ≡ trainedOrder B low k bytes
 
--- Theorem: after a start in these words and a feed of the bytes, the search of all blocks is not refused, and what it finds is that, whatever the store.
+-- Theorem: after a start in these words and a feed of the bytes to board 0, the search of all blocks is not refused, and what it finds is that, whatever the store.
 abbrev pub TrainingFound : Type 0
 TrainingFound =
-    (B : ℕ) (low : Bool) (k : ℕ) (ws bytes answers : List ℕ) (sampler : Sampler) (ws′ : List ℕ) → Acquisition B low ws (bytes ∷ []) answers sampler ws′
+    (B : ℕ) (low : Bool) (k : ℕ) (ws bytes answers : List ℕ) (sampler : Sampler) (ws′ : List ℕ) → Acquisition B low ws [] (onBoard 0 (bytes ∷ [])) answers sampler ws′
     → (store bins order : List ℕ) → Trainable B k (length bytes) (length ws) (length bins) (length order)
-    → (r : Searched) (store′ bins′ order′ : List ℕ) → BottomupSearch sampler ws′ 0 (blocksOf sampler) k store bins order r store′ bins′ order′
+    → (r : Searched) (store′ bins′ order′ : List ℕ) → BottomupSearch (sampler .head) ws′ 0 (blocksOf (sampler .head)) k store bins order r store′ bins′ order′
     → (r .refusal ≡ 0) × Trained B low k bytes (r .finding) order′
 
 -- Theorem: the evaluation of such a finding on any bytes with a block is not refused, and there is a sample.

@@ -1,9 +1,9 @@
 // The search of training bytes, in lent words.
 ghost use lib.ListN.{length};
 ghost use Rattle.judging.specs.Training.{Trainable, Trained};
-use counting::sampling::blocks;
-use counting::sampling::feed;
-use counting::sampling::start;
+use sampling::feeding::feed;
+use sampling::sampler::blocks;
+use sampling::sampler::start;
 use searching::finding::Finding;
 use searching::search::bottomup;
 
@@ -23,8 +23,10 @@ pub fn train(
     ensures { λ r. ⌜ Trained «block_size» «low_first» k (now (training .entry)) r (now (order .exit)) ⌝ }
 {
     let started = start(block_size, low_first, words);
-    let fed = feed(started.sampler, words, training);
-    let n = blocks(fed.sampler);
-    let searched = bottomup(fed.sampler, words, 0, n, k, store, bins, order);
+    let fed = feed(started.sampler, words, 0, training);
+    let sampler = fed.sampler;
+    let head = sampler.head;
+    let n = blocks(head);
+    let searched = bottomup(head, words, 0, n, k, store, bins, order);
     searched.finding
 }

@@ -10,10 +10,11 @@ use lib.Dec.{eqb}
 use lib.ListN.{length, getD, take, drop}
 use lib.Seq.{drop-cons, drop-drop, drop-length}
 use borrow.Author.Tests.{eqb-true, eqb-false, eq-eqb, ne-eqb}
-use Rattle.counting.specs.Recorded.{State, fed, fedAll, answersFrom}
-use Rattle.counting.specs.Sampling.{fedOf, fedWords}
-use Rattle.counting.specs.declared.sampling.Fed.{Fed}
 use Rattle.counting.specs.Sample.{total}
+use Rattle.sampling.specs.Boards.{Feed}
+use Rattle.sampling.specs.Feeding.{fedOf, fedWords}
+use Rattle.sampling.specs.Recorded.{State, fed, fedAll, answersFrom}
+use Rattle.sampling.specs.declared.feeding.Fed.{Fed}
 use Rattle.replay.specs.Pieces.{cut, refusedOne, refusedIn, stateOf}
 
 pub total-step : (l : List ℕ) (i : ℕ) → i < length l → total (drop i l) ≡ getD l i 0 + total (drop (i + 1) l)
@@ -37,7 +38,7 @@ unfolding total
 total-end l i e = rw (e, drop-length)
 
 pub cut-step : (bytes l : List ℕ) (at i : ℕ) → i < length l
-    → cut (drop at bytes) (drop i l) ≡ take (getD l i 0) (drop at bytes) ∷ cut (drop (at + getD l i 0) bytes) (drop (i + 1) l)
+    → cut (drop at bytes) (drop i l) ≡ record { board = 0; piece = take (getD l i 0) (drop at bytes) } ∷ cut (drop (at + getD l i 0) bytes) (drop (i + 1) l)
 unfolding cut
 cut-step bytes l at i h = rw (add-one, drop-cons l i 0, drop-drop)
 
@@ -62,20 +63,20 @@ module _ (bytes lengths : List ℕ) (st₀ : State) where
     feeding-within h = omega (arith, F .rest, total-step lengths i h)
 
     pub feeding-turn : i < length lengths → (p : List ℕ) → p ≡ take (getD lengths i 0) (drop at bytes)
-        → (r : Fed) (ws′ : List ℕ) → r ≡ fedOf (st .sampler) (length (st .words)) (length p) → ws′ ≡ fedWords (st .sampler) (st .words) p
+        → (r : Fed) (ws′ : List ℕ) → r ≡ fedOf (st .sampler) (length (st .words)) 0 p → ws′ ≡ fedWords (st .sampler .head) (st .sampler .unfinished) (st .words) 0 p
         → (one : ℕ) → one ≡ refusedOne (r .refusal)
         → Feeding bytes lengths st₀ (stateOf (r .sampler) ws′) (refused + one) (at + getD lengths i 0) (i + 1)
     unfolding fedAll fed answersFrom refusedIn
     feeding-turn h p is r ws′ e g one o =
-        let step : cut (drop at bytes) (drop i lengths) ≡ p ∷ cut (drop (at + getD lengths i 0) bytes) (drop (i + 1) lengths) =
-        cut-step bytes lengths at i h ∙ ap (λ (q : List ℕ). q ∷ cut (drop (at + getD lengths i 0) bytes) (drop (i + 1) lengths)) (sym is) in
-        let now : stateOf (r .sampler) ws′ ≡ fed st p = λ j. record { sampler = e j .sampler; words = g j } in
-        let one-is : one ≡ refusedOne (fedOf (st .sampler) (length (st .words)) (length p) .refusal) = o ∙ ap (λ (q : Fed). refusedOne (q .refusal)) e in
+        let step : cut (drop at bytes) (drop i lengths) ≡ record { board = 0; piece = p } ∷ cut (drop (at + getD lengths i 0) bytes) (drop (i + 1) lengths) =
+        cut-step bytes lengths at i h ∙ ap (λ (q : List ℕ). record { board = 0; piece = q } ∷ cut (drop (at + getD lengths i 0) bytes) (drop (i + 1) lengths)) (sym is) in
+        let now : stateOf (r .sampler) ws′ ≡ fed st (record { board = 0; piece = p }) = λ j. record { sampler = e j .sampler; words = g j } in
+        let one-is : one ≡ refusedOne (fedOf (st .sampler) (length (st .words)) 0 p .refusal) = o ∙ ap (λ (q : Fed). refusedOne (q .refusal)) e in
         record {
           place = omega arith;
           rest = omega (arith, F .rest, total-step lengths i h);
           state = F .state ∙ ap (fedAll st) step ∙ ap (λ (q : State). fedAll q (cut (drop (at + getD lengths i 0) bytes) (drop (i + 1) lengths))) (sym now);
-          count = rw now (omega (arith, F .count ∙ ap (λ (ps : List (List ℕ)). refused + refusedIn (answersFrom st ps)) step, one-is));
+          count = rw now (omega (arith, F .count ∙ ap (λ (ps : List Feed). refused + refusedIn (answersFrom st ps)) step, one-is));
           few = omega (arith, F .few, refused-little (r .refusal) one o);
         }
 

@@ -11,6 +11,7 @@ use Rattle.searching.specs.Refusal.{widthRefusal, bufferRefusal}
 use Rattle.counting.proofs.Accepted.{passed}
 use Rattle.searching.proofs.Refusing.{Width, width-free, buffer-free, neither}
 use Rattle.counting.specs.Sample.{total}
+use Rattle.sampling.specs.Boards.{Feed}
 use Rattle.replay.specs.Replay.{replayRefusal, refusedReplay, ReplayOf}
 use Rattle.replay.specs.declared.replay.Replayed.{Replayed}
 
@@ -38,7 +39,7 @@ replay-free B bytes lengths k bins order e =
     }
 
 -- a replay that is refused leaves everything as lent
-pub as-lent : (r B : ℕ) (low : Bool) (pieces : List (List ℕ)) (k : ℕ) (ws store bins order : List ℕ) (answer : Replayed)
+pub as-lent : (r B : ℕ) (low : Bool) (pieces : List Feed) (k : ℕ) (ws store bins order : List ℕ) (answer : Replayed)
     → (r ≡ 0 → ⊥) → answer ≡ refusedReplay r → ReplayOf r B low pieces k ws store bins order answer ws store bins order
 as-lent zero B low pieces k ws store bins order answer some e = absurd (some refl)
 as-lent (suc r) B low pieces k ws store bins order answer some e = record {

@@ -4,8 +4,8 @@ ghost use lib.Dec.{eqb};
 ghost use lib.ListN.{length};
 ghost use Rattle.counting.specs.Sample.{total};
 ghost use Rattle.replay.specs.Pieces.{cut, refusedOne, FedPieces};
-use counting::sampling::Sampler;
-use counting::sampling::feed;
+use sampling::feeding::feed;
+use sampling::sampler::Sampler;
 
 // What feeding the pieces answers: the sampler last returned, and how many feeds were refused.
 pub struct Taken {
@@ -30,7 +30,7 @@ pub fn adds_up(lengths: &[usize], bytes: usize) -> bool
     left == 0
 }
 
-// Feeds each piece of the recording in turn. A refused feed adds nothing, and is counted.
+// Feeds each piece of the recording in turn to board 0. A refused feed adds nothing, and is counted.
 pub fn feed_pieces(
     sampler: Sampler,
     words: &mut [u64],
@@ -46,7 +46,7 @@ pub fn feed_pieces(
     let mut i: usize = 0;
     while i < lengths.len() {
         let end = at + lengths[i];
-        let fed = feed(latest, words, &recording[at..end]);
+        let fed = feed(latest, words, 0, &recording[at..end]);
         latest = fed.sampler;
         refused += refused_one(fed.refusal);
         at = end;

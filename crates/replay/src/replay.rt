@@ -5,9 +5,9 @@ use crate::agreement::same_finding;
 use crate::pieces::adds_up;
 use crate::pieces::feed_pieces;
 use counting::block::valid_block_size;
-use counting::sampling::blocks;
-use counting::sampling::start;
 use layers::size::store_suffices;
+use sampling::sampler::blocks;
+use sampling::sampler::start;
 use searching::finding::Finding;
 use searching::finding::refused;
 use searching::search::bottomup;
@@ -24,8 +24,8 @@ pub struct Replayed {
     pub finding: Finding,
 }
 
-// Feeds a recording in pieces of the given lengths to a fresh sampler of the words in the given bit order, and searches it twice: with the store, and with none.
-// Refusals 24 (the lengths do not add up to the recording's), 1, 2, 3, 7, all before anything is written.
+// Feeds the recording of one board in pieces of the given lengths to a fresh sampler of the words in the given bit order, and searches it twice: with the store,
+// and with none. Refusals 24 (the lengths do not add up to the recording's), 1, 2, 3, 7, all before anything is written.
 pub fn replay(
     block_size: usize,
     low_first: bool,
@@ -53,10 +53,12 @@ pub fn replay(
     let layered = store_suffices(block_size, k, store.len());
     let started = start(block_size, low_first, words);
     let taken = feed_pieces(started.sampler, words, recording, lengths);
-    let n = blocks(taken.sampler);
-    let stored = bottomup(taken.sampler, words, 0, n, k, store, bins, order);
+    let sampler = taken.sampler;
+    let head = sampler.head;
+    let n = blocks(head);
+    let stored = bottomup(head, words, 0, n, k, store, bins, order);
     let mut none: [u32; 0] = [];
-    let direct = bottomup(taken.sampler, words, 0, n, k, &mut none, bins, order);
+    let direct = bottomup(head, words, 0, n, k, &mut none, bins, order);
     let first = stored.finding;
     let finding = direct.finding;
     let agree = same_finding(first, finding);

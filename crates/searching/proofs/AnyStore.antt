@@ -7,7 +7,7 @@ use native.Mathlib.Omega.{arith}
 use lib.Dec.{leb}
 use lib.ListN.{length}
 use borrow.Author.Tests.{le-leb, lt-leb}
-use Rattle.counting.specs.declared.sampling.Sampler.{Sampler}
+use Rattle.sampling.specs.declared.sampler.Head.{Head}
 use Rattle.layers.specs.Store.{storeSuffices, storeNeeded}
 use Rattle.layers.proofs.Sizing.{some-needed, needed-suffices}
 use Rattle.subsets.proofs.Refusing.{valid-width}
@@ -25,7 +25,7 @@ any-store s ws first end k bins order store r store′ bins′ order′ S store�
 -- ---- the store
 
 -- as a search that is not refused decides
-decided : (s : Sampler) (words first end k a : ℕ) → SearchFree s words first end k
+decided : (s : Head) (words first end k a : ℕ) → SearchFree s words first end k
     → let need = storeNeeded (s .«block_size») k in storeSuffices (s .«block_size») k a ≡ (leb 1 need && leb need a)
 decided s words first end k a f =
     needed-suffices (s .«block_size») k a (f .usable .valid) (valid-width k (f .width .some) (f .width .width)) (f .width .chosen)

@@ -2,26 +2,33 @@
 -- (theorem `claims`).
 use mathlib.Core.Path.{_≡_, refl, sym, ap, ap₂, subst, _∙_}
 use mathlib.Core.Bool.{Bool, true, false, not}
-use mathlib.Core.List.{List, [], _∷_, _++_}
+use mathlib.Core.List.{List, [], _∷_, _++_, append-assoc, append-nil}
 use mathlib.Core.Logic.{_⊎_, inl, inr}
 use Prim.Native.Nat.{ℕ, zero, suc, _+_, _-_, _^_, _≤_, _<_}
 use native.Mathlib.Omega.{arith}
 use lib.Dec.{T, leb}
 use lib.Ieee.{Float, lt}
 use lib.ListN.{length, take, drop}
-use borrow.Author.Tests.{eq-eqb, le-leb, lt-leb}
+use borrow.Author.Tests.{eq-eqb, le-leb, lt-leb, lt-ltb}
 use Rattle.counting.specs.Block.{validSize}
-use Rattle.counting.specs.Recording.{stride, capacityBytes, recording, blocksIn, recordedBit}
+use Rattle.counting.specs.Recording.{stride, capacity, blocksIn, recordedBit}
 use Rattle.counting.specs.Sample.{onward, countsOf, AgreeBelow}
-use Rattle.counting.specs.Sampling.{startedOf, samplerRefusal, fedOf}
-use Rattle.counting.specs.Stretch.{stretchOf, stretchRefusal, stretchBit}
-use Rattle.counting.specs.Recorded.{State, started, fed, fedAll, answersFrom, HoldsRecording}
+use Rattle.counting.specs.Stretch.{stretchBit}
 use Rattle.counting.specs.Words.{storedBit}
-use Rattle.counting.specs.declared.sampling.Sampler.{Sampler}
-use Rattle.counting.specs.declared.sampling.Started.{Started}
-use Rattle.counting.specs.declared.sampling.Fed.{Fed}
 use Rattle.counting.proofs.Counts.{same-counts}
-use Rattle.counting.proofs.Recorded.{all-recorded, fedAll-snoc, answers-snoc}
+use Rattle.sampling.specs.Boards.{Boards, Feed, boardsOf, recording}
+use Rattle.sampling.specs.Earlier.{heldFrom, earlierRecording, earlierStarted, earlierAnswers}
+use Rattle.sampling.specs.Feeding.{fedOf}
+use Rattle.sampling.specs.Recorded.{State, started, carriedOver, fed, fedAll, answersFrom, samplerOf, HoldsRecording, Bytes}
+use Rattle.sampling.specs.Sampler.{startedOf, eachShort, samplerRefusal}
+use Rattle.sampling.specs.Stretch.{stretchOf, stretchRefusal}
+use Rattle.sampling.specs.declared.feeding.Fed.{Fed}
+use Rattle.sampling.specs.declared.sampler.Head.{Head}
+use Rattle.sampling.specs.declared.sampler.Sampler.{Sampler}
+use Rattle.sampling.specs.declared.sampler.Started.{Started}
+use Rattle.sampling.proofs.Carried.{all-recorded, all-carried}
+use Rattle.sampling.proofs.Keeping.{all-kept}
+use Rattle.sampling.proofs.Recorded.{fedAll-snoc, answers-snoc}
 use Rattle.layers.specs.Store.{widest, storeSize, storeSuffices}
 use Rattle.scoring.proofs.Less.{equal}
 use Rattle.ranking.specs.Order.{orderOf}
@@ -35,7 +42,7 @@ use Rattle.subsets.proofs.Listing.{bits-below}
 use Rattle.searching.specs.Finding.{winnerOf, findingOf, zOf}
 use Rattle.searching.specs.Refusal.{orElse, widthRefusal, bufferRefusal, searchRefusal, bottomupRefusal}
 use Rattle.searching.specs.Search.{StretchSearch, BottomupSearch, storeAfter}
-use Rattle.searching.specs.Claim.{Acquisition, fresh, next, Best, BestIn, SearchClaim, SearchRoom, Same, Claims}
+use Rattle.searching.specs.Claim.{Acquisition, fresh, carried, next, Best, BestIn, SearchClaim, SearchRoom, Same, Claims}
 use Rattle.searching.specs.declared.finding.Finding.{Finding}
 use Rattle.searching.specs.declared.finding.Searched.{Searched}
 use Rattle.searching.proofs.Filled.{replaced-first, length-counts, length-order}
@@ -54,32 +61,52 @@ valid-start B low words e = by-test (validSize B) refl e
     by-test true p e = p
     by-test false p e = absurd (let h : _≡_ {A = ℕ} 1 0 = simp p at e in omega arith)
 
-pub record Stands (B : ℕ) (low : Bool) (ws : List ℕ) (pieces : List (List ℕ)) (answers : List ℕ) (s : Sampler) (ws′ : List ℕ) : Type 0 where
-  pub valid : validSize B ≡ true
-  pub state : record { sampler = s; words = ws′ } ≡ fedAll (started B low ws) pieces
-  pub said : answers ≡ answersFrom (started B low ws) pieces
+-- the state after pieces under the earlier rule, a carry-over and feeds
+abbrev pub stateAfter : ℕ → Bool → List ℕ → List (List ℕ) → List Feed → State
+stateAfter B low ws old feeds = fedAll (carriedOver B low ws old) feeds
 
-pub stands : {B : ℕ} {low : Bool} {ws : List ℕ} {pieces : List (List ℕ)} {answers : List ℕ} {s : Sampler} {ws′ : List ℕ}
-    → Acquisition B low ws pieces answers s ws′ → Stands B low ws pieces answers s ws′
-unfolding started fed fedAll answersFrom
-stands {B} {low} {ws} (fresh r ws′ e g z) = record {
-  valid = valid-start B low (length ws) (sym (ap (λ (q : Started). q .refusal) e) ∙ z);
+pub record Stands (B : ℕ) (low : Bool) (ws : List ℕ) (old : List (List ℕ)) (feeds : List Feed) (answers : List ℕ) (s : Sampler) (ws′ : List ℕ) : Type 0 where
+  pub valid : validSize B ≡ true
+  pub small : Bytes (earlierRecording B (length ws) old)
+  pub state : record { sampler = s; words = ws′ } ≡ stateAfter B low ws old feeds
+  pub said : answers ≡ earlierAnswers (earlierStarted B low ws) old ++ answersFrom (carriedOver B low ws old) feeds
+
+pub stands : {B : ℕ} {low : Bool} {ws : List ℕ} {old : List (List ℕ)} {feeds : List Feed} {answers : List ℕ} {s : Sampler} {ws′ : List ℕ}
+    → Acquisition B low ws old feeds answers s ws′ → Stands B low ws old feeds answers s ws′
+unfolding started carriedOver fed fedAll answersFrom earlierAnswers heldFrom
+stands {B} {low} {ws} (fresh r ws′ e g z) =
+    let valid = valid-start B low (length ws) (sym (ap (λ (q : Started). q .refusal) e) ∙ z) in
+    let is : record { sampler = r .sampler; words = ws′ } ≡ started B low ws = λ i. record { sampler = e i .sampler; words = g i } in
+    record {
+      valid = valid;
+      small = λ i h. absurd (omega arith);
+      state = is ∙ sym (all-carried B low ws valid .fresh);
+      said = refl;
+    }
+stands {B} {low} {ws} (carried old valid small r ws′ e g) = record {
+  valid = valid;
+  small = small;
   state = λ i. record { sampler = e i .sampler; words = g i };
-  said = refl;
+  said = sym (append-nil (earlierAnswers (earlierStarted B low ws) old));
 }
-stands {B} {low} {ws} (next {pieces} {answers} {s} {ws′} before p r ws″ e g) =
+stands {B} {low} {ws} (next {old} {feeds} {answers} {s} {ws′} before f r ws″ e g) =
     let S = stands before in
-    let st = fedAll (started B low ws) pieces in
-    let is : record { sampler = r .sampler; words = ws″ } ≡ fed (record { sampler = s; words = ws′ }) p = λ i. record { sampler = e i .sampler; words = g i } in
+    let first = earlierAnswers (earlierStarted B low ws) old in
+    let begun = carriedOver B low ws old in
+    let is : record { sampler = r .sampler; words = ws″ } ≡ fed (record { sampler = s; words = ws′ }) f = λ i. record { sampler = e i .sampler; words = g i } in
+    let said : r .refusal ≡ fedOf (fedAll begun feeds .sampler) (length (fedAll begun feeds .words)) (f .board) (f .piece) .refusal =
+    ap (λ (q : Fed). q .refusal) e ∙ ap (λ (q : State). fedOf (q .sampler) (length (q .words)) (f .board) (f .piece) .refusal) (S .state) in
     record {
       valid = S .valid;
-      state = is ∙ ap (λ (q : State). fed q p) (S .state) ∙ sym (fedAll-snoc (started B low ws) pieces p);
-      said = ap₂ (λ (l : List ℕ) (a : ℕ). l ++ (a ∷ [])) (S .said) (ap (λ (q : Fed). q .refusal) e ∙ ap (λ (q : State). fedOf (q .sampler) (length (q .words)) (length p) .refusal) (S .state))
-          ∙ sym (answers-snoc (started B low ws) pieces p);
+      small = S .small;
+      state = is ∙ ap (λ (q : State). fed q f) (S .state) ∙ sym (fedAll-snoc begun feeds f);
+      said = ap₂ (λ (l : List ℕ) (a : ℕ). l ++ (a ∷ [])) (S .said) said
+          ∙ append-assoc first (answersFrom begun feeds) _ ∙ ap (λ (l : List ℕ). first ++ l) (sym (answers-snoc begun feeds f));
     }
 
 -- the block size of an acquisition is valid
-pub acquired-valid : {B : ℕ} {low : Bool} {ws : List ℕ} {pieces : List (List ℕ)} {answers : List ℕ} {s : Sampler} {ws′ : List ℕ} → Acquisition B low ws pieces answers s ws′ → validSize B ≡ true
+pub acquired-valid : {B : ℕ} {low : Bool} {ws : List ℕ} {old : List (List ℕ)} {feeds : List Feed} {answers : List ℕ} {s : Sampler} {ws′ : List ℕ}
+    → Acquisition B low ws old feeds answers s ws′ → validSize B ≡ true
 acquired-valid acquired = stands acquired .valid
 
 -- ---- what is best in one sample is best in another that agrees with it
@@ -106,13 +133,12 @@ module _ (B n k : ℕ) (bit bit′ : ℕ → ℕ → ℕ) (agree : AgreeBelow n 
 
 -- ---- the search of the words is a search of the recording
 
-abbrev sampler-of : ℕ → Bool → ℕ → ℕ → Sampler
-sampler-of B low words taken = record { «block_size» = B; words = words; taken = taken; «low_first» = low }
-
-module _ (B : ℕ) (low : Bool) (words : ℕ) (held ws : List ℕ) (ok : validSize B ≡ true) (lent : length ws ≡ words) (within : length held ≤ capacityBytes B words)
+-- a sampler's head with these numbers of unfinished bytes, all of them short
+module _ (B : ℕ) (low : Bool) (words : ℕ) (held ws lengths : List ℕ) (ok : validSize B ≡ true) (lent : length ws ≡ words) (within : blocksIn B held ≤ capacity B words)
+    (short : eachShort (record { «block_size» = B; words = words; blocks = blocksIn B held; «low_first» = low; lengths = lengths }) ≡ true)
     (agree : AgreeBelow (blocksIn B held) B (storedBit (stride B words) ws) (recordedBit B low held)) (first end k : ℕ) where
-  abbrev s : Sampler
-  s = sampler-of B low words (length held)
+  abbrev s : Head
+  s = record { «block_size» = B; words = words; blocks = blocksIn B held; «low_first» = low; lengths = lengths }
 
   abbrev n : ℕ
   n = end - first
@@ -132,7 +158,7 @@ module _ (B : ℕ) (low : Bool) (words : ℕ) (held ws : List ℕ) (ok : validSi
 
   pub usable-is : samplerRefusal s (length ws) ≡ 0
   unfolding samplerRefusal
-  usable-is = simp (ok, lent, eq-eqb words words refl, le-leb _ _ within)
+  usable-is = simp (ok, lent, eq-eqb words words refl, le-leb _ _ within, short)
 
   stretch-is : first ≤ end → end ≤ blocksIn B held → stretchRefusal s first end ≡ 0
   unfolding stretchRefusal
@@ -256,26 +282,37 @@ module _ (B : ℕ) (low : Bool) (words : ℕ) (held ws : List ℕ) (ok : validSi
 
 -- ---- every acquisition
 
--- the sampler and the words are those of the recording
-pub recorder : (B : ℕ) (low : Bool) (ws : List ℕ) (pieces : List (List ℕ)) (answers : List ℕ) (s : Sampler) (ws′ : List ℕ) → Acquisition B low ws pieces answers s ws′
-    → HoldsRecording B low (length ws) (record { sampler = s; words = ws′ }) (recording B (length ws) pieces)
-recorder B low ws pieces answers s ws′ acquired =
-    let S = stands acquired in
-    subst (λ (st : State). HoldsRecording B low (length ws) st (recording B (length ws) pieces)) (sym (S .state)) (all-recorded B low ws (S .valid) pieces .holds)
+module _ {B : ℕ} {low : Bool} {ws : List ℕ} {old : List (List ℕ)} {feeds : List Feed} {answers : List ℕ} {s : Sampler} {ws′ : List ℕ}
+    (acquired : Acquisition B low ws old feeds answers s ws′) where
+  abbrev recorded : Boards
+  recorded = boardsOf B (length ws) old feeds
+
+  -- the sampler and the words are those of the recording
+  pub recorder : HoldsRecording B low (length ws) (record { sampler = s; words = ws′ }) recorded
+  recorder =
+      let S = stands acquired in
+      subst (λ (st : State). HoldsRecording B low (length ws) st recorded) (sym (S .state)) (all-recorded B low ws (S .valid) old (S .small) feeds .holds)
+
+  -- no board has a block's unfinished bytes
+  pub each-short : eachShort (samplerOf B low (length ws) recorded .head) ≡ true
+  each-short =
+      let K = all-kept B (length ws) (acquired-valid acquired) old feeds in
+      simp (lt-ltb _ _ (K .short 0), lt-ltb _ _ (K .short 1), lt-ltb _ _ (K .short 2), lt-ltb _ _ (K .short 3))
 
 pub claims : Claims
-claims B low ws pieces answers s ws′ acquired =
+claims B low ws old feeds answers s ws′ acquired =
     let S = stands acquired in
-    let held = recording B (length ws) pieces in
-    let H = recorder B low ws pieces answers s ws′ acquired in
-    let is = H .sampler in
+    let held = recording B (length ws) old feeds in
+    let H = recorder acquired in
+    let is : s .head ≡ samplerOf B low (length ws) (boardsOf B (length ws) old feeds) .head = ap (λ (q : Sampler). q .head) (H .sampler) in
+    let lengths = samplerOf B low (length ws) (boardsOf B (length ws) old feeds) .head .lengths in
     record {
-      fed = S .said ∙ all-recorded B low ws (S .valid) pieces .answers;
+      fed = S .said ∙ all-recorded B low ws (S .valid) old (S .small) feeds .answers;
       search = λ first end k store bins order r store′ bins′ order′ P.
-          search-claim B low (length ws) held ws′ (S .valid) (H .lent) (H .within) (H .stored) first end k store bins order r store′ bins′ order′
-          (subst (λ (q : Sampler). BottomupSearch q ws′ first end k store bins order r store′ bins′ order′) is P);
+          search-claim B low (length ws) held ws′ lengths (S .valid) (H .lent) (H .within) (each-short acquired) (H .stored) first end k store bins order r store′ bins′ order′
+          (subst (λ (q : Head). BottomupSearch q ws′ first end k store bins order r store′ bins′ order′) is P);
       same = λ first end k store bins order r store′ bins′ order′ P store₂ bins₂ order₂ r₂ store₂′ bins₂′ order₂′ P₂ z y.
-          both-same B low (length ws) held ws′ (S .valid) (H .lent) (H .within) (H .stored) first end k store bins order r store′ bins′ order′
-          (subst (λ (q : Sampler). BottomupSearch q ws′ first end k store bins order r store′ bins′ order′) is P) store₂ bins₂ order₂ r₂ store₂′ bins₂′ order₂′
-          (subst (λ (q : Sampler). BottomupSearch q ws′ first end k store₂ bins₂ order₂ r₂ store₂′ bins₂′ order₂′) is P₂) z y;
+          both-same B low (length ws) held ws′ lengths (S .valid) (H .lent) (H .within) (each-short acquired) (H .stored) first end k store bins order r store′ bins′ order′
+          (subst (λ (q : Head). BottomupSearch q ws′ first end k store bins order r store′ bins′ order′) is P) store₂ bins₂ order₂ r₂ store₂′ bins₂′ order₂′
+          (subst (λ (q : Head). BottomupSearch q ws′ first end k store₂ bins₂ order₂ r₂ store₂′ bins₂′ order₂′) is P₂) z y;
     }

@@ -7,4 +7,6 @@ pub mod AnyStore
 pub mod Claiming
 pub mod Stretches
 pub mod Reversing
+pub mod Winning
+pub mod Boards
 pub mod Examples

@@ -8,11 +8,13 @@ use native.Mathlib.Omega.{arith}
 use lib.Dec.{leb}
 use lib.ListN.{length}
 use borrow.Author.Tests.{leb-true}
-use Rattle.counting.specs.Sampling.{blocksOf, samplerRefusal}
-use Rattle.counting.specs.Stretch.{stretchOf, stretchRefusal, stretchBit, span}
-use Rattle.counting.specs.declared.sampling.Sampler.{Sampler}
+use Rattle.sampling.specs.Sampler.{blocksOf, samplerRefusal}
+use Rattle.counting.specs.Stretch.{stretchBit, span}
+use Rattle.sampling.specs.Stretch.{stretchOf, stretchRefusal}
+use Rattle.sampling.specs.declared.sampler.Head.{Head}
 use Rattle.counting.specs.declared.stretch.Stretch.{Stretch}
-use Rattle.counting.proofs.Accepted.{passed, Usable, usable, valid-facts, room-blocks}
+use Rattle.counting.proofs.Accepted.{passed, valid-facts}
+use Rattle.sampling.proofs.Usable.{Usable, usable}
 use Rattle.layers.specs.Store.{storeSuffices}
 use Rattle.subsets.specs.Bits.{validWidth}
 use Rattle.subsets.proofs.Refusing.{width-bounds}
@@ -59,11 +61,11 @@ buffer-free k a b e =
 -- ---- what can be searched
 
 -- the sampler has the blocks from `first` to before `end`
-pub record Ordered (s : Sampler) (first end : ℕ) : Type 0 where
+pub record Ordered (s : Head) (first end : ℕ) : Type 0 where
   pub order : first ≤ end
   pub held : end ≤ blocksOf s
 
-pub stretch-free : (s : Sampler) (first end : ℕ) → stretchRefusal s first end ≡ 0 → Ordered s first end
+pub stretch-free : (s : Head) (first end : ℕ) → stretchRefusal s first end ≡ 0 → Ordered s first end
 unfolding stretchRefusal
 stretch-free s first end e =
     let p = passed (leb first end) (cond (leb end (blocksOf s)) 0 18) 18 (omega arith) e in
@@ -71,23 +73,23 @@ stretch-free s first end e =
     record { order = leb-true first end (p .0); held = leb-true end (blocksOf s) (q .0) }
 
 -- the sampler has these words and these blocks, and the width fits its block
-pub record SearchFree (s : Sampler) (words first end k : ℕ) : Type 0 where
+pub record SearchFree (s : Head) (words first end k : ℕ) : Type 0 where
   pub usable : Usable s words
   pub ordered : Ordered s first end
   pub width : Width (s .«block_size») k
 
-pub search-free : (s : Sampler) (words first end k : ℕ) → searchRefusal s words first end k ≡ 0 → SearchFree s words first end k
+pub search-free : (s : Head) (words first end k : ℕ) → searchRefusal s words first end k ≡ 0 → SearchFree s words first end k
 unfolding searchRefusal
 search-free s words first end k e =
     let p = neither (samplerRefusal s words) _ e in
     let q = neither (stretchRefusal s first end) _ (p .1) in
     record { usable = usable s words (p .0); ordered = stretch-free s first end (q .0); width = width-free (s .«block_size») k (q .1) }
 
-pub searchable : (s : Sampler) (words first end k : ℕ) (x : Stretch) → x ≡ stretchOf s words first end → SearchFree s words first end k → Searchable words x k
+pub searchable : (s : Head) (words first end k : ℕ) (x : Stretch) → x ≡ stretchOf s words first end → SearchFree s words first end k → Searchable words x k
 searchable s words first end k x is f =
     let B = s .«block_size» in
     let v = valid-facts B (f .usable .valid) in
-    let blocks = le-trans (f .ordered .held) (room-blocks B words (s .taken) v (f .usable .within)) in
+    let blocks = le-trans (f .ordered .held) (f .usable .within) in
     rw is (record {
       some = f .width .some;
       width = f .width .width;
@@ -96,11 +98,11 @@ searchable s words first end k x is f =
       rows = (omega (arith, div-mul-le-self words B, mul-comm B (words / B)), (f .ordered .order, le-trans blocks (min-le-left _ _), le-trans blocks (min-le-right _ _)));
     })
 
-pub record BottomupFree (s : Sampler) (words first end k bins order : ℕ) : Type 0 where
+pub record BottomupFree (s : Head) (words first end k bins order : ℕ) : Type 0 where
   pub search : SearchFree s words first end k
   pub room : (2 ^ k ≤ bins) × (2 ^ k ≤ order)
 
-pub bottomup-free : (s : Sampler) (words first end k bins order : ℕ) → bottomupRefusal s words first end k bins order ≡ 0 → BottomupFree s words first end k bins order
+pub bottomup-free : (s : Head) (words first end k bins order : ℕ) → bottomupRefusal s words first end k bins order ≡ 0 → BottomupFree s words first end k bins order
 unfolding bottomupRefusal
 bottomup-free s words first end k bins order e =
     let p = neither (searchRefusal s words first end k) _ e in
@@ -118,7 +120,7 @@ pub search-refused : (r : ℕ) (low : Bool) (bit : ℕ → ℕ → ℕ) (n B k :
 search-refused zero low bit n B k bins order answer h e = absurd (h refl)
 search-refused (suc r) low bit n B k bins order answer h e = record { answered = e; counted = refl; ordered = refl }
 
-pub search-found : (r : ℕ) (s : Sampler) (ws : List ℕ) (first end k : ℕ) (x : Stretch) (bins order : List ℕ) (f g : Finding) (bins′ order′ : List ℕ)
+pub search-found : (r : ℕ) (s : Head) (ws : List ℕ) (first end k : ℕ) (x : Stretch) (bins order : List ℕ) (f g : Finding) (bins′ order′ : List ℕ)
     → x ≡ stretchOf s (length ws) first end → r ≡ 0 → Won (stretchBit x ws) (span x) (x .«block_size») k bins order f bins′ order′ → g ≡ marked (s .«low_first») f
     → StretchSearch r s ws first end k bins order (record { refusal = 0; finding = g }) bins′ order′
 search-found r s ws first end k x bins order f g bins′ order′ is e won mark =
@@ -135,7 +137,7 @@ pub store-refused : (r : ℕ) (suffices : Bool) (bit : ℕ → ℕ → ℕ) (n B
 store-refused zero suffices bit n B k store h = absurd (h refl)
 store-refused (suc r) suffices bit n B k store h = refl
 
-pub store-left : (r : ℕ) (s : Sampler) (ws : List ℕ) (first end k : ℕ) (x : Stretch) (store store′ : List ℕ)
+pub store-left : (r : ℕ) (s : Head) (ws : List ℕ) (first end k : ℕ) (x : Stretch) (store store′ : List ℕ)
     → x ≡ stretchOf s (length ws) first end → r ≡ 0
     → store′ ≡ storeAfter 0 (storeSuffices (x .«block_size») k (length store)) (stretchBit x ws) (span x) (x .«block_size») k store
     → let y = stretchOf s (length ws) first end in

@@ -6,25 +6,30 @@ use mathlib.Core.List.{List}
 use Prim.Native.Nat.{ℕ, zero, suc, _+_, _-_}
 use lib.ListN.{length, replicate}
 use Rattle.counting.specs.Block.{validSize}
-use Rattle.counting.specs.Recorded.{State, started, fedAll, answersFrom}
 use Rattle.counting.specs.Recording.{recordedBit}
-use Rattle.counting.specs.Reversed.{reversedBytes, reversedPieces, highFirst}
+use Rattle.counting.specs.Reversed.{reversedBytes}
 use Rattle.counting.specs.Sample.{onward}
-use Rattle.counting.specs.Sampling.{startedOf, startedWords, samplerRefusal}
-use Rattle.counting.specs.Stretch.{stretchOf, stretchRefusal, stretchBit, span}
-use Rattle.counting.specs.declared.sampling.Sampler.{Sampler}
-use Rattle.counting.proofs.Reversing.{reversal, all-reversed}
+use Rattle.counting.specs.Stretch.{stretchBit, span}
+use Rattle.counting.proofs.Reversing.{reversal}
+use Rattle.sampling.specs.Boards.{refusalsOf}
+use Rattle.sampling.specs.Recorded.{State, carriedOver, fedAll}
+use Rattle.sampling.specs.Reversed.{reversedPieces, reversedFeeds, highFirst, mirrored}
+use Rattle.sampling.specs.Sampler.{samplerRefusal}
+use Rattle.sampling.specs.Stretch.{stretchOf, stretchRefusal}
+use Rattle.sampling.specs.declared.sampler.Head.{Head}
+use Rattle.sampling.specs.declared.sampler.Sampler.{Sampler}
+use Rattle.sampling.proofs.Reversing.{recordings-reversed, all-reversed}
 use Rattle.searching.specs.Claim.{Best}
 use Rattle.searching.specs.Refusal.{searchRefusal, bottomupRefusal}
 use Rattle.searching.specs.Search.{answerOf, StretchSearch, BottomupSearch}
 use Rattle.searching.specs.Reversed.{BestReversed, unmarked, SameUnmarked, LowAsHigh, LowIsHighReversed}
 use Rattle.searching.specs.declared.finding.Searched.{Searched}
-use Rattle.searching.proofs.Claiming.{stands}
+use Rattle.searching.proofs.Claiming.{stands, claims}
 
--- a start's state goes by the number of words alone
-start-same : (B : ℕ) (low : Bool) (ws ws′ : List ℕ) → validSize B ≡ true → length ws ≡ length ws′ → started B low ws′ ≡ started B low ws
-unfolding started startedOf startedWords
-start-same B low ws ws′ ok e = simp (ok, e) refl
+-- what is carried over goes by the number of words alone
+start-same : (B : ℕ) (low : Bool) (ws ws′ : List ℕ) (old : List (List ℕ)) → length ws ≡ length ws′ → carriedOver B low ws′ old ≡ carriedOver B low ws old
+unfolding carriedOver
+start-same B low ws ws′ old e = simp e refl
 
 -- ---- what is best
 
@@ -48,7 +53,7 @@ best-reversed B held first end k f bins order b =
 
 -- ---- one search
 
-module _ (s : Sampler) (ws : List ℕ) (first end k : ℕ) where
+module _ (s : Head) (ws : List ℕ) (first end k : ℕ) where
   unmarked-is : (r : ℕ) → let x = stretchOf s (length ws) first end in
       unmarked (answerOf r (s .«low_first») (stretchBit x ws) (span x) (s .«block_size») k) ≡ answerOf r false (stretchBit x ws) (span x) (s .«block_size») k
   unmarked-is zero = refl
@@ -74,21 +79,23 @@ module _ (s : Sampler) (ws : List ℕ) (first end k : ℕ) where
 -- ---- after any feeds
 
 pub low-is-high-reversed : LowIsHighReversed
-low-is-high-reversed B pieces ws answers s ws₁ acquired ws′ answers′ s′ ws₁′ acquired′ size =
+low-is-high-reversed B old feeds ws answers s ws₁ acquired ws′ answers′ s′ ws₁′ acquired′ size =
     let L = stands acquired in
     let H = stands acquired′ in
-    let R = all-reversed B ws (L .valid) pieces in
-    let begin = start-same B false ws ws′ (L .valid) size in
-    let high : record { sampler = s′; words = ws₁′ } ≡ fedAll (started B false ws) (reversedPieces pieces) =
-    H .state ∙ ap (λ (u : State). fedAll u (reversedPieces pieces)) begin in
+    let R = all-reversed B ws (L .valid) old feeds in
+    let begin = start-same B false ws ws′ (reversedPieces old) size in
+    let high : record { sampler = s′; words = ws₁′ } ≡ fedAll (carriedOver B false ws (reversedPieces old)) (reversedFeeds feeds) =
+    H .state ∙ ap (λ (u : State). fedAll u (reversedFeeds feeds)) begin in
     let words : ws₁′ ≡ ws₁ = ap (λ (u : State). u .words) high ∙ R .words ∙ sym (ap (λ (u : State). u .words) (L .state)) in
-    let sampler : s′ ≡ highFirst s = ap (λ (u : State). u .sampler) high ∙ R .sampler ∙ sym (ap (λ (u : State). highFirst (u .sampler)) (L .state)) in
+    let sampler : s′ ≡ mirrored s = ap (λ (u : State). u .sampler) high ∙ R .sampler ∙ sym (ap (λ (u : State). mirrored (u .sampler)) (L .state)) in
     record {
-      fed = H .said ∙ ap (λ (u : State). answersFrom u (reversedPieces pieces)) begin ∙ R .answers ∙ sym (L .said);
+      fed = claims B false ws′ (reversedPieces old) (reversedFeeds feeds) answers′ s′ ws₁′ acquired′ .fed
+          ∙ ap (λ (m : ℕ). refusalsOf B m (reversedPieces old) (reversedFeeds feeds)) (sym size)
+          ∙ recordings-reversed B (length ws) old feeds .refusals ∙ sym (claims B true ws old feeds answers s ws₁ acquired .fed);
       words = words;
       sampler = sampler;
       search = λ first end k store bins order r store₁ bins₁ order₁ S r′ store₁′ bins₁′ order₁′ S′.
-          bottomup-same s ws₁ first end k store bins order r store₁ bins₁ order₁ S r′ store₁′ bins₁′ order₁′
-          (subst (λ (l : List ℕ). BottomupSearch (highFirst s) l first end k store bins order r′ store₁′ bins₁′ order₁′) words
-          (subst (λ (q : Sampler). BottomupSearch q ws₁′ first end k store bins order r′ store₁′ bins₁′ order₁′) sampler S′));
+          bottomup-same (s .head) ws₁ first end k store bins order r store₁ bins₁ order₁ S r′ store₁′ bins₁′ order₁′
+          (subst (λ (l : List ℕ). BottomupSearch (highFirst (s .head)) l first end k store bins order r′ store₁′ bins₁′ order₁′) words
+          (subst (λ (q : Sampler). BottomupSearch (q .head) ws₁′ first end k store bins order r′ store₁′ bins₁′ order₁′) sampler S′));
     }

@@ -10,12 +10,15 @@ use lib.Ieee.{Float, lt}
 use lib.ListN.{length, take}
 use native.Mathlib.Nat.{le-refl, zero-add, sub-zero}
 use borrow.Author.Tests.{le-leb}
-use Rattle.counting.specs.Recording.{recording, blocksIn, recordedBit}
+use Rattle.counting.specs.Recording.{blocksIn, recordedBit}
 use Rattle.counting.specs.Sample.{onward, AgreeBelow}
-use Rattle.counting.specs.Sampling.{blocksOf, samplerRefusal}
-use Rattle.counting.specs.Stretch.{stretchRefusal, stretchBytes, stretchBit}
-use Rattle.counting.specs.declared.sampling.Sampler.{Sampler}
+use Rattle.counting.specs.Stretch.{stretchBytes, stretchBit}
 use Rattle.counting.proofs.Alone.{stretches-alone}
+use Rattle.sampling.specs.Boards.{recording}
+use Rattle.sampling.specs.Sampler.{blocksOf, samplerRefusal}
+use Rattle.sampling.specs.Stretch.{stretchRefusal}
+use Rattle.sampling.specs.declared.sampler.Head.{Head}
+use Rattle.sampling.specs.declared.sampler.Sampler.{Sampler}
 use Rattle.subsets.specs.Subsets.{lexLt}
 use Rattle.searching.specs.Refusal.{orElse, searchRefusal, bottomupRefusal}
 use Rattle.searching.specs.Search.{Search}
@@ -29,12 +32,12 @@ or-assoc zero b c = refl
 or-assoc (suc a) b c = refl
 
 -- it is never refused with 18
-pub never-outside : (s : Sampler) → stretchRefusal s 0 (blocksOf s) ≡ 0
+pub never-outside : (s : Head) → stretchRefusal s 0 (blocksOf s) ≡ 0
 unfolding stretchRefusal
 never-outside s = simp (le-leb _ _ (zero-le {n = blocksOf s}), le-leb _ _ (le-refl (blocksOf s)))
 
 -- what holds of a sample's blocks from 0 to n holds of its n blocks
-from-none : (P : (ℕ → ℕ → ℕ) → ℕ → Type 0) (bit : ℕ → ℕ → ℕ) (n : ℕ) → P (onward 0 bit) (n - 0) → P bit n
+pub from-none : (P : (ℕ → ℕ → ℕ) → ℕ → Type 0) (bit : ℕ → ℕ → ℕ) (n : ℕ) → P (onward 0 bit) (n - 0) → P bit n
 from-none P bit n = subst (λ (m : ℕ). P (onward 0 bit) (n - 0) → P bit m) (sub-zero n) (subst (λ (f : ℕ → ℕ → ℕ). P (onward 0 bit) (n - 0) → P f (n - 0)) (λ i e. bit (zero-add e i)) (λ p. p))
 
 pub whole-stretches : WholeStretches
@@ -46,18 +49,19 @@ whole-stretches s words = record {
 }
 
 pub whole-recordings : WholeRecordings
-whole-recordings B low ws pieces answers s ws′ acquired =
-    let H = recorder B low ws pieces answers s ws′ acquired in
-    let is : blocksOf s ≡ blocksIn B (recording B (length ws) pieces) = ap blocksOf (H .sampler) in
+whole-recordings B low ws old feeds answers s ws′ acquired =
+    let H = recorder acquired in
+    let held = recording B (length ws) old feeds in
+    let is : blocksOf (s .head) ≡ blocksIn B held = ap (λ (q : Sampler). blocksOf (q .head)) (H .sampler) in
     record {
       blocks = is;
       best = λ k f bins order b.
-          let bit = recordedBit B low (recording B (length ws) pieces) in
-          subst (λ (n : ℕ). Best low bit n B k f bins order) is (from-none (λ g n. Best low g n B k f bins order) bit (blocksOf s) b);
+          let bit = recordedBit B low held in
+          subst (λ (n : ℕ). Best low bit n B k f bins order) is (from-none (λ g n. Best low g n B k f bins order) bit (blocksOf (s .head)) b);
     }
 
 -- what is best in a sample is best in another that agrees with it
-best-agrees : (low : Bool) (bit bit′ : ℕ → ℕ → ℕ) (n B k : ℕ) (f : Finding) (bins order : List ℕ) → AgreeBelow n B bit bit′ → Best low bit n B k f bins order → Best low bit′ n B k f bins order
+pub best-agrees : (low : Bool) (bit bit′ : ℕ → ℕ → ℕ) (n B k : ℕ) (f : Finding) (bins order : List ℕ) → AgreeBelow n B bit bit′ → Best low bit n B k f bins order → Best low bit′ n B k f bins order
 best-agrees low bit bit′ n B k f bins order agree b = record {
   block = b .block;
   width = b .width;

@@ -1,18 +1,25 @@
--- The claim over a whole list of feeds from a fresh sampler, refused and empty ones among them, with the searches after it.
+-- The claim over a whole list of feeds from a fresh sampler, or from one that was carried over, refused and empty ones among them, with the searches after it.
 use mathlib.Core.Path.{_≡_}
 use mathlib.Core.Logic.{_⊎_}
 use Prim.Native.Nat.{ℕ, _-_, _^_, _≤_, _<_}
-use mathlib.Core.Bool.{Bool}
+use mathlib.Core.Bool.{Bool, true}
 use mathlib.Core.List.{List, [], _∷_, _++_}
 use lib.Dec.{T}
 use lib.Ieee.{lt}
 use lib.ListN.{length, take}
-use Rattle.counting.specs.Recording.{recording, refusalsFrom, blocksIn, recordedBit}
+use Rattle.counting.specs.Block.{validSize}
+use Rattle.counting.specs.Recording.{blocksIn, recordedBit}
 use Rattle.counting.specs.Sample.{onward, countsOf}
-use Rattle.counting.specs.Sampling.{startedOf, startedWords, fedOf, fedWords}
-use Rattle.counting.specs.declared.sampling.Sampler.{Sampler}
-use Rattle.counting.specs.declared.sampling.Started.{Started}
-use Rattle.counting.specs.declared.sampling.Fed.{Fed}
+use Rattle.sampling.specs.Boards.{Feed, recording, refusalsOf}
+use Rattle.sampling.specs.Carrying.{carriedOf, carriedWords}
+use Rattle.sampling.specs.Earlier.{earlierRecording, earlierStarted, earlierAfter, earlierAnswers}
+use Rattle.sampling.specs.Feeding.{fedOf, fedWords}
+use Rattle.sampling.specs.Recorded.{Bytes}
+use Rattle.sampling.specs.Sampler.{startedOf, startedWords}
+use Rattle.sampling.specs.declared.carrying.Carried.{Carried}
+use Rattle.sampling.specs.declared.feeding.Fed.{Fed}
+use Rattle.sampling.specs.declared.sampler.Sampler.{Sampler}
+use Rattle.sampling.specs.declared.sampler.Started.{Started}
 use Rattle.ranking.specs.Order.{orderOf}
 use Rattle.ranking.specs.Ranking.{scoreOf}
 use Rattle.layers.specs.Store.{storeSuffices}
@@ -22,13 +29,18 @@ use Rattle.searching.specs.Search.{storeAfter, BottomupSearch}
 use Rattle.searching.specs.declared.finding.Finding.{Finding}
 use Rattle.searching.specs.declared.finding.Searched.{Searched}
 
--- An acquisition: a start of B in a bit order on the words ws that is not refused, and feeds of the pieces after it, each given the sampler last returned and the words
--- as they are then; what each feed answered, the sampler last returned and the words. Only the promises of `start` and `feed` are used.
-pub data Acquisition (B : ℕ) (low : Bool) (ws : List ℕ) : List (List ℕ) → List ℕ → Sampler → List ℕ → Type 0 where
-  fresh : (r : Started) (ws′ : List ℕ) → r ≡ startedOf B low (length ws) → ws′ ≡ startedWords B ws → r .refusal ≡ 0 → Acquisition B low ws [] [] (r .sampler) ws′
-  next : {pieces : List (List ℕ)} {answers : List ℕ} {s : Sampler} {ws′ : List ℕ} → Acquisition B low ws pieces answers s ws′
-      → (piece : List ℕ) (r : Fed) (ws″ : List ℕ) → r ≡ fedOf s (length ws′) (length piece) → ws″ ≡ fedWords s ws′ piece
-      → Acquisition B low ws (pieces ++ (piece ∷ [])) (answers ++ (r .refusal ∷ [])) (r .sampler) ws″
+-- An acquisition: how a recording of blocks of B bits, in a bit order, came into the words ws. It begins with a start that is not refused; or, under the earlier
+-- rule, with a start and the pieces `old`, and a carry-over. Feeds follow, each given the sampler last returned and the words as they are then. It has what each
+-- feed answered, the sampler last returned and the words. Only the promises of `start`, `carry_over` and `feed` are used, and what the earlier rule promised.
+pub data Acquisition (B : ℕ) (low : Bool) (ws : List ℕ) : List (List ℕ) → List Feed → List ℕ → Sampler → List ℕ → Type 0 where
+  fresh : (r : Started) (ws′ : List ℕ) → r ≡ startedOf B low (length ws) → ws′ ≡ startedWords B ws → r .refusal ≡ 0 → Acquisition B low ws [] [] [] (r .sampler) ws′
+  carried : (old : List (List ℕ)) → validSize B ≡ true → Bytes (earlierRecording B (length ws) old) → (r : Carried) (ws′ : List ℕ)
+      → r ≡ carriedOf (earlierAfter B low ws old .sampler) (earlierAfter B low ws old .words)
+      → ws′ ≡ carriedWords (earlierAfter B low ws old .sampler) (earlierAfter B low ws old .words)
+      → Acquisition B low ws old [] (earlierAnswers (earlierStarted B low ws) old) (r .sampler) ws′
+  next : {old : List (List ℕ)} {feeds : List Feed} {answers : List ℕ} {s : Sampler} {ws′ : List ℕ} → Acquisition B low ws old feeds answers s ws′
+      → (f : Feed) (r : Fed) (ws″ : List ℕ) → r ≡ fedOf s (length ws′) (f .board) (f .piece) → ws″ ≡ fedWords (s .head) (s .unfinished) ws′ (f .board) (f .piece)
+      → Acquisition B low ws old (feeds ++ (f ∷ [])) (answers ++ (r .refusal ∷ [])) (r .sampler) ws″
 
 -- The finding f, with the counts and the order left in the buffers, is the best of width k in the sample of n blocks of B bits, in
 -- the bit order.
@@ -49,7 +61,7 @@ pub record Best (low : Bool) (bit : ℕ → ℕ → ℕ) (n B k : ℕ) (f : Find
   pub beats : (t : List ℕ) → Subset B k t
       → (t ≡ take k (f .bits)) ⊎ (T (lt (zOf bit n t) (f .z)) ⊎ ((zOf bit n t ≡ f .z) × T (lexLt (take k (f .bits)) t)))
 
--- .. in the blocks from `first` to before `end` of the recording in this bit order that holds `held`.
+-- .. in the blocks from `first` to before `end` of the recording in this bit order whose blocks are `held`, one behind the other.
 abbrev pub BestIn : ℕ → Bool → List ℕ → ℕ → ℕ → ℕ → Finding → List ℕ → List ℕ → Type 0
 BestIn B low held first end k = Best low (onward first (recordedBit B low held)) (end - first) B k
 
@@ -66,7 +78,7 @@ abbrev pub StoredIn : ℕ → Bool → List ℕ → ℕ → ℕ → ℕ → List
 StoredIn B low held first end k store store′ =
     store′ ≡ storeAfter 0 (storeSuffices B k (length store)) (onward first (recordedBit B low held)) (end - first) B k store
 
--- What holds of a search after an acquisition of the pieces, whatever store it is lent: it is refused with 18 where the recording has not the blocks of the
+-- What holds of a search after an acquisition, whatever store it is lent: it is refused with 18 where the recording has not the blocks of the
 -- stretch, it succeeds where it has and there is room, and where it succeeds it has found the best of these blocks, and left the store as above.
 pub record SearchClaim (B : ℕ) (low : Bool) (held : List ℕ) (first end k : ℕ) (store bins order : List ℕ) (r : Searched) (store′ bins′ order′ : List ℕ) : Type 0 where
   pub outside : (end < first) ⊎ (blocksIn B held < end) → r .refusal ≡ 18
@@ -82,21 +94,21 @@ pub record Same (k : ℕ) (r : Searched) (bins order : List ℕ) (r′ : Searche
 
 -- What holds after an acquisition: a feed was refused just where the plain recording refuses it, each search of a stretch finds the best of its blocks, and
 -- two that succeed, with whatever stores and buffers, find the same.
-pub record Claim (B : ℕ) (low : Bool) (ws : List ℕ) (pieces : List (List ℕ)) (answers : List ℕ) (s : Sampler) (ws′ : List ℕ) : Type 0 where
-  pub fed : answers ≡ refusalsFrom B (length ws) [] pieces
+pub record Claim (B : ℕ) (low : Bool) (ws : List ℕ) (old : List (List ℕ)) (feeds : List Feed) (answers : List ℕ) (s : Sampler) (ws′ : List ℕ) : Type 0 where
+  pub fed : answers ≡ refusalsOf B (length ws) old feeds
   pub search :
       (first end k : ℕ) (store bins order : List ℕ) (r : Searched) (store′ bins′ order′ : List ℕ)
-      → BottomupSearch s ws′ first end k store bins order r store′ bins′ order′
-      → SearchClaim B low (recording B (length ws) pieces) first end k store bins order r store′ bins′ order′
+      → BottomupSearch (s .head) ws′ first end k store bins order r store′ bins′ order′
+      → SearchClaim B low (recording B (length ws) old feeds) first end k store bins order r store′ bins′ order′
   pub same :
       (first end k : ℕ) (store bins order : List ℕ) (r : Searched) (store′ bins′ order′ : List ℕ)
-      → BottomupSearch s ws′ first end k store bins order r store′ bins′ order′
+      → BottomupSearch (s .head) ws′ first end k store bins order r store′ bins′ order′
       → (store₂ bins₂ order₂ : List ℕ) (r₂ : Searched) (store₂′ bins₂′ order₂′ : List ℕ)
-      → BottomupSearch s ws′ first end k store₂ bins₂ order₂ r₂ store₂′ bins₂′ order₂′
+      → BottomupSearch (s .head) ws′ first end k store₂ bins₂ order₂ r₂ store₂′ bins₂′ order₂′
       → r .refusal ≡ 0 → r₂ .refusal ≡ 0 → Same k r bins′ order′ r₂ bins₂′ order₂′
 
 -- Theorem: that holds after every acquisition.
 abbrev pub Claims : Type 0
 Claims =
-    (B : ℕ) (low : Bool) (ws : List ℕ) (pieces : List (List ℕ)) (answers : List ℕ) (s : Sampler) (ws′ : List ℕ)
-    → Acquisition B low ws pieces answers s ws′ → Claim B low ws pieces answers s ws′
+    (B : ℕ) (low : Bool) (ws : List ℕ) (old : List (List ℕ)) (feeds : List Feed) (answers : List ℕ) (s : Sampler) (ws′ : List ℕ)
+    → Acquisition B low ws old feeds answers s ws′ → Claim B low ws old feeds answers s ws′

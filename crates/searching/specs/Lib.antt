@@ -8,4 +8,5 @@ pub mod AnyStore
 pub mod Claim
 pub mod Stretches
 pub mod Reversed
+pub mod Boards
 pub mod Examples

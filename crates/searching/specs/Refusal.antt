@@ -2,9 +2,9 @@
 use Prim.Native.Nat.{ℕ, zero, suc, _^_}
 use mathlib.Core.Bool.{cond}
 use lib.Dec.{leb}
-use Rattle.counting.specs.Sampling.{samplerRefusal}
-use Rattle.counting.specs.Stretch.{stretchRefusal}
-use Rattle.counting.specs.declared.sampling.Sampler.{Sampler}
+use Rattle.sampling.specs.Sampler.{samplerRefusal}
+use Rattle.sampling.specs.Stretch.{stretchRefusal}
+use Rattle.sampling.specs.declared.sampler.Head.{Head}
 use Rattle.subsets.specs.Bits.{validWidth}
 
 -- r where it is a refusal, else what comes after it
@@ -21,10 +21,10 @@ unfoldable pub bufferRefusal : ℕ → ℕ → ℕ → ℕ
 bufferRefusal k a b = cond (leb (2 ^ k) a) (cond (leb (2 ^ k) b) 0 7) 7
 
 -- what comes before the buffers: 4, 18, 2, 3
-unfoldable pub searchRefusal : Sampler → ℕ → ℕ → ℕ → ℕ → ℕ
+unfoldable pub searchRefusal : Head → ℕ → ℕ → ℕ → ℕ → ℕ
 searchRefusal s words first end k =
     orElse (samplerRefusal s words) (orElse (stretchRefusal s first end) (widthRefusal (s .«block_size») k))
 
 -- the search, whatever store it is lent: 4, 18, 2, 3, 7
-unfoldable pub bottomupRefusal : Sampler → ℕ → ℕ → ℕ → ℕ → ℕ → ℕ → ℕ
+unfoldable pub bottomupRefusal : Head → ℕ → ℕ → ℕ → ℕ → ℕ → ℕ → ℕ
 bottomupRefusal s words first end k bins order = orElse (searchRefusal s words first end k) (bufferRefusal k bins order)

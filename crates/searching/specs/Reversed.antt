@@ -4,8 +4,10 @@ use mathlib.Core.Bool.{true, false}
 use mathlib.Core.List.{List}
 use Prim.Native.Nat.{ℕ}
 use lib.ListN.{length}
-use Rattle.counting.specs.Reversed.{reversedBytes, reversedPieces, highFirst}
-use Rattle.counting.specs.declared.sampling.Sampler.{Sampler}
+use Rattle.counting.specs.Reversed.{reversedBytes}
+use Rattle.sampling.specs.Boards.{Feed}
+use Rattle.sampling.specs.Reversed.{reversedPieces, reversedFeeds, mirrored}
+use Rattle.sampling.specs.declared.sampler.Sampler.{Sampler}
 use Rattle.searching.specs.Claim.{Acquisition, BestIn}
 use Rattle.searching.specs.Finding.{marked}
 use Rattle.searching.specs.Search.{BottomupSearch}
@@ -28,21 +30,21 @@ pub record SameUnmarked (r : Searched) (bins order : List ℕ) (r′ : Searched)
   pub counts : bins ≡ bins′
   pub orders : order ≡ order′
 
--- What holds of acquisitions of some pieces with the low bit first, which left s and ws, and of the reversed pieces with the high bit first, which left s′ and
--- ws′: the feeds answered the same, the words are the same and the samplers but for the bit order, and so is each search, refused or not.
+-- What holds of acquisitions of some pieces and feeds with the low bit first, which left s and ws, and of the reversed ones with the high bit first, which left
+-- s′ and ws′: the feeds answered the same, the words are the same, s′ is s mirrored, and each search answers the same, refused or not.
 pub record LowAsHigh (answers : List ℕ) (s : Sampler) (ws : List ℕ) (answers′ : List ℕ) (s′ : Sampler) (ws′ : List ℕ) : Type 0 where
   pub fed : answers′ ≡ answers
   pub words : ws′ ≡ ws
-  pub sampler : s′ ≡ highFirst s
+  pub sampler : s′ ≡ mirrored s
   pub search :
       (first end k : ℕ) (store bins order : List ℕ) (r : Searched) (store₁ bins₁ order₁ : List ℕ)
-      → BottomupSearch s ws first end k store bins order r store₁ bins₁ order₁
-      → (r′ : Searched) (store₁′ bins₁′ order₁′ : List ℕ) → BottomupSearch s′ ws′ first end k store bins order r′ store₁′ bins₁′ order₁′
+      → BottomupSearch (s .head) ws first end k store bins order r store₁ bins₁ order₁
+      → (r′ : Searched) (store₁′ bins₁′ order₁′ : List ℕ) → BottomupSearch (s′ .head) ws′ first end k store bins order r′ store₁′ bins₁′ order₁′
       → SameUnmarked r bins₁ order₁ r′ bins₁′ order₁′ × (store₁ ≡ store₁′)
 
 -- Theorem: that holds of all such acquisitions, in as many words.
 abbrev pub LowIsHighReversed : Type 0
 LowIsHighReversed =
-    (B : ℕ) (pieces : List (List ℕ)) (ws : List ℕ) (answers : List ℕ) (s : Sampler) (ws₁ : List ℕ) → Acquisition B true ws pieces answers s ws₁
-    → (ws′ : List ℕ) (answers′ : List ℕ) (s′ : Sampler) (ws₁′ : List ℕ) → Acquisition B false ws′ (reversedPieces pieces) answers′ s′ ws₁′
+    (B : ℕ) (old : List (List ℕ)) (feeds : List Feed) (ws : List ℕ) (answers : List ℕ) (s : Sampler) (ws₁ : List ℕ) → Acquisition B true ws old feeds answers s ws₁
+    → (ws′ : List ℕ) (answers′ : List ℕ) (s′ : Sampler) (ws₁′ : List ℕ) → Acquisition B false ws′ (reversedPieces old) (reversedFeeds feeds) answers′ s′ ws₁′
     → length ws ≡ length ws′ → LowAsHigh answers s ws₁ answers′ s′ ws₁′

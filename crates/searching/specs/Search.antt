@@ -5,8 +5,9 @@ use mathlib.Core.Bool.{Bool, true, false}
 use mathlib.Core.List.{List, _++_}
 use lib.ListN.{length, drop}
 use Rattle.counting.specs.Sample.{countsOf}
-use Rattle.counting.specs.Stretch.{stretchOf, stretchBit, span}
-use Rattle.counting.specs.declared.sampling.Sampler.{Sampler}
+use Rattle.counting.specs.Stretch.{stretchBit, span}
+use Rattle.sampling.specs.Stretch.{stretchOf}
+use Rattle.sampling.specs.declared.sampler.Head.{Head}
 use Rattle.ranking.specs.Order.{orderOf}
 use Rattle.searching.specs.Finding.{winnerOf, findingOf, refusedWith}
 use Rattle.layers.specs.Store.{storeOf, storeSize, storeSuffices}
@@ -35,7 +36,7 @@ pub record Search (r : ℕ) (low : Bool) (bit : ℕ → ℕ → ℕ) (n B k : �
   pub ordered : order′ ≡ orderAfter r bit n B k order
 
 -- A search of the sampler's blocks from `first` to before `end`.
-abbrev pub StretchSearch : ℕ → Sampler → List ℕ → ℕ → ℕ → ℕ → List ℕ → List ℕ → Searched → List ℕ → List ℕ → Type 0
+abbrev pub StretchSearch : ℕ → Head → List ℕ → ℕ → ℕ → ℕ → List ℕ → List ℕ → Searched → List ℕ → List ℕ → Type 0
 StretchSearch r s ws first end k =
     let x = stretchOf s (length ws) first end in
     Search r (s .«low_first») (stretchBit x ws) (span x) (s .«block_size») k
@@ -47,7 +48,7 @@ storeAfter zero false bit n B k store = store
 storeAfter (suc r) suffices bit n B k store = store
 
 -- What `bottomup` promises: the store decides over itself alone, and nothing else goes by it.
-pub record BottomupSearch (s : Sampler) (ws : List ℕ) (first end k : ℕ) (store bins order : List ℕ) (answer : Searched) (store′ bins′ order′ : List ℕ) : Type 0 where
+pub record BottomupSearch (s : Head) (ws : List ℕ) (first end k : ℕ) (store bins order : List ℕ) (answer : Searched) (store′ bins′ order′ : List ℕ) : Type 0 where
   pub search :
       StretchSearch (bottomupRefusal s (length ws) first end k (length bins) (length order)) s ws first end k bins order answer bins′ order′
   pub stored :

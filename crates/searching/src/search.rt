@@ -14,18 +14,19 @@ use crate::finding::marked;
 use crate::finding::refused;
 use crate::layered::brute_force;
 use counting::block::bin_count;
-use counting::sampling::Sampler;
-use counting::sampling::sampler_refusal;
 use counting::stretch::Stretch;
-use counting::stretch::stretch_of;
-use counting::stretch::stretch_refusal;
 use layers::size::store_suffices;
+use sampling::sampler::Head;
+use sampling::sampler::sampler_refusal;
+use sampling::stretch::stretch_of;
+use sampling::stretch::stretch_refusal;
 use subsets::bits::valid_width;
 
-// The best k-subset of the blocks from `first` to before `end`: by layers where the store is long enough and its size at most 2^32, and the counts of the
-// smaller subsets are then left in it; else every bin is counted, and the store stays as lent. Refusals 4, 18, 2, 3, 7.
+// The best k-subset of the blocks from `first` to before `end` of a sampler, of which a search looks at the head alone: by layers where the store is long enough
+// and its size at most 2^32, and the counts of the smaller subsets are then left in it; else every bin is counted, and the store stays as lent.
+// Refusals 4, 18, 2, 3, 7.
 pub fn bottomup(
-    sampler: Sampler,
+    sampler: Head,
     words: &[u64],
     first: usize,
     end: usize,
@@ -70,7 +71,7 @@ fn search_stretch(
 
 // 4, 18, 2, 3, 7, or 0 where a search can be made.
 fn bottomup_refusal(
-    sampler: Sampler,
+    sampler: Head,
     words: usize,
     first: usize,
     end: usize,
@@ -89,7 +90,7 @@ fn bottomup_refusal(
 }
 
 // 4, 18, 2, 3, or 0 where the sampler has these words and the blocks of the stretch, and the width fits its block.
-fn search_refusal(sampler: Sampler, words: usize, first: usize, end: usize, k: usize) -> u32
+fn search_refusal(sampler: Head, words: usize, first: usize, end: usize, k: usize) -> u32
     requires { ⌜ 8 * words < 9223372036854775808 ⌝ }
     ensures { λ r. ⌜ r ≡ searchRefusal sampler words first end k ⌝ }
 {

@@ -13,10 +13,10 @@ fn main() {
 }
 
 // For the whole of standard input.
-fn room() -> [u8; 524288]
-    ensures { λ r. ⌜ 524288 ≡ length r ⌝ }
+fn room() -> [u8; 655360]
+    ensures { λ r. ⌜ 655360 ≡ length r ⌝ }
 {
-    [0; 524288]
+    [0; 655360]
 }
 
 // All cases of a text: the ranks of subsets, the rankings of counts, the searches.

@@ -1,7 +1,7 @@
-// Cases of searches: B, the bit order, 1 where the low bit comes first, and the number of lent words; the number of pieces, for each its length and its bytes;
-// the number of searches, for each the first block and the end of the stretch, k, the lengths of the bin buffer, the order buffer and the store, and
-// 0 for the sampler last returned, or 1 and another sampler's four fields.
-// Answer: a line for start and the feeds; for each search, first with the store, then with none, a line with what it answers, the finding's bit order last, one
+// Cases of searches: B, the bit order, 1 where the low bit comes first, and the number of lent words; how the recording begins and the feeds, as
+// `cases::feeding` reads them; the number of searches, for each the first block and the end of the stretch, k, the lengths of the bin buffer, the order buffer
+// and the store, and 0 for the sampler last returned, or 1 and another sampler's eight numbers.
+// Answer: the line of `cases::feeding`; for each search, first with the store, then with none, a line with what it answers, the finding's bit order last, one
 // with the first 2 ^ k counts, one with the first 2 ^ k entries of the order, and one with how many other entries of the buffers and of the store are no longer
 // as lent, and of the store the sum of its counts, each times its place. Where it is refused, all entries are such others, and the sum is 0; so it is of a store
 // that does not suffice.
@@ -18,14 +18,14 @@ use cases::printing::print;
 use cases::reading::at_most;
 use cases::reading::number;
 use counting::block::bin_count;
-use counting::sampling::Sampler;
 use layers::size::store_needed;
+use sampling::sampler::Head;
 use searching::finding::Searched;
 use searching::search::bottomup;
 
 // What the searches are given, and the place reached in the text.
 struct Search {
-    sampler: Sampler,
+    sampler: Head,
     first: usize,
     end: usize,
     k: usize,
@@ -37,7 +37,7 @@ struct Search {
 
 // The sampler to search with, and the place reached in the text.
 struct Given {
-    sampler: Sampler,
+    sampler: Head,
     at: usize,
 }
 
@@ -75,11 +75,13 @@ fn replay_with(
     words: &mut [u64],
 ) -> usize {
     let recorded = record(text, at, block_size, low_first, words);
-    search_all(text, recorded.at, recorded.sampler, words)
+    let sampler = recorded.sampler;
+    let head = sampler.head;
+    search_all(text, recorded.at, head, words)
 }
 
 // The number of searches, then the searches.
-fn search_all(text: &[u8], at: usize, sampler: Sampler, words: &[u64]) -> usize {
+fn search_all(text: &[u8], at: usize, sampler: Head, words: &[u64]) -> usize {
     let searches = number(text, at);
     let mut from = searches.at;
     let mut left = searches.value;
@@ -90,14 +92,14 @@ fn search_all(text: &[u8], at: usize, sampler: Sampler, words: &[u64]) -> usize 
     from
 }
 
-fn search_one(text: &[u8], at: usize, sampler: Sampler, words: &[u64]) -> usize {
+fn search_one(text: &[u8], at: usize, sampler: Head, words: &[u64]) -> usize {
     let search = read_search(text, at, sampler);
     lend(search, words, search.store);
     lend(search, words, 0);
     search.at
 }
 
-fn read_search(text: &[u8], at: usize, returned: Sampler) -> Search {
+fn read_search(text: &[u8], at: usize, returned: Head) -> Search {
     let first = number(text, at);
     let end = number(text, first.at);
     let width = number(text, end.at);
@@ -118,7 +120,7 @@ fn read_search(text: &[u8], at: usize, returned: Sampler) -> Search {
     }
 }
 
-fn given_sampler(text: &[u8], at: usize, returned: Sampler) -> Given {
+fn given_sampler(text: &[u8], at: usize, returned: Head) -> Given {
     let other = number(text, at);
     if other.value == 0 {
         return Given {
@@ -128,16 +130,26 @@ fn given_sampler(text: &[u8], at: usize, returned: Sampler) -> Given {
     }
     let size = number(text, other.at);
     let words = number(text, size.at);
-    let taken = number(text, words.at);
-    let order = number(text, taken.at);
+    let blocks = number(text, words.at);
+    let order = number(text, blocks.at);
+    let first = number(text, order.at);
+    let second = number(text, first.at);
+    let third = number(text, second.at);
+    let fourth = number(text, third.at);
     Given {
-        sampler: Sampler {
+        sampler: Head {
             block_size: size.value as usize,
             words: words.value as usize,
-            taken: taken.value as usize,
+            blocks: blocks.value as usize,
             low_first: order.value == 1,
+            lengths: [
+                first.value as usize,
+                second.value as usize,
+                third.value as usize,
+                fourth.value as usize,
+            ],
         },
-        at: order.at,
+        at: fourth.at,
     }
 }
 

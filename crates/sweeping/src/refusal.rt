@@ -5,9 +5,9 @@ ghost use Rattle.counting.specs.Block.{validSize};
 ghost use mathlib.Core.Bool.{true};
 ghost use Rattle.sweeping.specs.Pair.{Sound, testedBlocks};
 ghost use Rattle.sweeping.specs.Refusal.{roomRefusal, pairRefusal, pairsRefusal, levelRefusal, sweepRefusal};
-use counting::sampling::capacity_bytes;
 use judging::check::scratch_refusal;
 use judging::plan::Plan;
+use sampling::sampler::capacity_bytes;
 use searching::search::buffer_refusal;
 
 // How many entries the lent buffers have.

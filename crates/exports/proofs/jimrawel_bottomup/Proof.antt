@@ -1,7 +1,7 @@
 -- `jimrawel_bottomup` meets its contract: what the search promised of the sampler read, and its finding written.
 use mathlib.Core.Path.{_≡_, sym, _∙_}
 use lib.ListN.{length}
-use Rattle.exports.specs.Records.{searchUnread}
+use Rattle.exports.specs.Samplers.{searchUnread}
 use Rattle.exports.proofs.Calling.{search-room, bottomup-made, bottomup-unread}
 use borrow.Author.Needs.{needs}
 use Rattle.exports.proofs.jimrawel_bottomup.Statement.{statement}
@@ -22,8 +22,8 @@ returns c =
 none : (e : tie.Else1) → let a = start (e .before) .args in searchUnread (a .sampler .now) (length (a .finding .now)) ≡ 0
 none e = sym (e .before .search-unread .ensures) ∙ e .if1 .left
 
-read-sampler-requires : tie.Need-read-sampler-requires
-read-sampler-requires c κs = search-room _ _ (none c) .1
+read-head-requires : tie.Need-read-head-requires
+read-head-requires c κs = search-room _ _ (none c) .1
 
 bottomup-requires : tie.Need-bottomup-requires
 bottomup-requires c κs = search needs
@@ -51,8 +51,8 @@ returns-2 c =
     let e = r .before in
     let a = start (e .before) .args in
     bottomup-made (a .sampler .now) (a .words .now) (a .first) (a .end) (a .k) (a .store .now) (a .bins .now) (a .order .now) (a .finding .now)
-    (r .read-sampler .result) (f .bottomup .result) _ _ _ (w .write-finding .last .1 .0)
-    (none e) (r .read-sampler .ensures) (f .bottomup .ensures) (w .write-finding .ensures)
+    (r .read-head .result) (f .bottomup .result) _ _ _ (w .write-finding .last .1 .0)
+    (none e) (r .read-head .ensures) (f .bottomup .ensures) (w .write-finding .ensures)
 
 pub jimrawel-bottomup-spec : {M : Type 1} → statement M
 jimrawel-bottomup-spec =
@@ -60,7 +60,7 @@ jimrawel-bottomup-spec =
     (tie.spec
     search-unread-requires
     returns
-    read-sampler-requires
+    read-head-requires
     bottomup-requires
     write-finding-requires
     same-length

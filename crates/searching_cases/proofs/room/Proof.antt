@@ -6,7 +6,7 @@ use Rattle.searching_cases.proofs.room.Statement.{statement}
 use Rattle.searching_cases.proofs.room.Tie as tie
 
 returns : tie.Need-returns
-returns c = sym (length-replicate {A = ℕ} 524288 0)
+returns c = sym (length-replicate {A = ℕ} 655360 0)
 
 pub room-spec : {M : Type 1} → statement M
 room-spec = tie.close (tie.spec returns)

@@ -11,6 +11,9 @@ large-buffer-requires c κs = search needs
 number-requires : tie.Need-number-requires
 number-requires c κs = search needs
 
+number-requires-2 : tie.Need-number-requires-2
+number-requires-2 c κs = search needs
+
 at-most-requires : tie.Need-at-most-requires
 at-most-requires c κs = search needs
 
@@ -35,6 +38,7 @@ feed-one-spec =
     (tie.spec
     large-buffer-requires
     number-requires
+    number-requires-2
     at-most-requires
     array-borrow-prefix-piece
     slice-aggregate-feed-piece

@@ -4,7 +4,7 @@ use mathlib.Core.List.{[]}
 use Prim.Native.Nat.{ℕ, _<_}
 use native.Mathlib.Omega.{arith}
 use lib.ListN.{length}
-use Rattle.counting.specs.Recorded.{State, started, answersFrom}
+use Rattle.sampling.specs.Recorded.{State, started, answersFrom}
 use Rattle.counting.proofs.Accepted.{valid-facts}
 use Rattle.searching.specs.Search.{BottomupSearch}
 use Rattle.replay.specs.Pieces.{cut, refusedIn, stateOf}
@@ -32,7 +32,7 @@ abbrev begun : tie.After-feed-pieces → tie.Else1
 begun f = f .before .before .before .before .before .before .before
 
 abbrev fed : tie.After-bottomup → tie.After-feed-pieces
-fed b = b .before .before .before .before .before .before .before .before
+fed b = b .before .before .before .before .before .before .before .before .before .before
 
 abbrev searched : tie.After-bottomup2 → tie.After-bottomup
 searched d = d .before .before .before .before .before .before .before .before .before .before .before
@@ -116,7 +116,7 @@ returns-2 c =
     let f = fed b in
     let e = begun f in
     let a = entry e .args in
-    let s = f .feed-pieces .result .sampler in
+    let s = f .feed-pieces .result .sampler .head in
     let ws = f .feed-pieces .last .1 .0 in
     let layered = f .before .before .before .before .before .before .store-suffices in
     replayed (a .block-size) (a .low-first) (a .words .now) (cut (a .recording .now) (a .lengths .now)) (length (a .recording .now)) (a .lengths .now) (a .k) (a .store .now)

@@ -1,8 +1,8 @@
 -- `search::search_refusal` meets its contract: the sampler's refusal before the stretch's, and that before the width's.
 use mathlib.Core.Path.{_≡_, sym, _∙_}
 use borrow.Author.Needs.{needs}
-use Rattle.counting.specs.Sampling.{samplerRefusal}
-use Rattle.counting.specs.Stretch.{stretchRefusal}
+use Rattle.sampling.specs.Sampler.{samplerRefusal}
+use Rattle.sampling.specs.Stretch.{stretchRefusal}
 use Rattle.searching.specs.Refusal.{orElse, widthRefusal, searchRefusal}
 use Rattle.searching.proofs.Refusing.{or-first, or-next}
 use Rattle.searching.proofs.search.search_refusal.Statement.{statement}

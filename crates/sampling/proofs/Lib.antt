@@ -1,0 +1,17 @@
+pub mod Usable
+pub mod Filling
+pub mod Cutting
+pub mod Taking
+pub mod Lifting
+pub mod Holding
+pub mod Earlier
+pub mod Tails
+pub mod Recorded
+pub mod Clearing
+pub mod Carried
+pub mod Adding
+pub mod Accepting
+pub mod Keeping
+pub mod Sole
+pub mod Reversing
+pub mod Examples
