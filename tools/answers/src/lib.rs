@@ -16,7 +16,10 @@ mod stores;
 
 pub use brackets::{Bracket, Brackets};
 pub use draws::Draws;
-pub use feeding::{capacity_bytes, cut, held, pieces, recording, valid, write_recording, CHUNK_ENDS, SHORT_CHUNK_ENDS};
+pub use feeding::{
+    alone, capacity, capacity_bytes, cut, dealt, earlier_bytes, feeds, laid, recording, valid, words_after, write_recording, Begin, Earlier, Feed, Plain,
+    CHUNK_ENDS, SHORT_CHUNK_ENDS,
+};
 pub use order::{high_first, reversed};
 pub use rules::Rules;
 pub use sheet::Sheet;

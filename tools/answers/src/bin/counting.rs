@@ -6,12 +6,12 @@ use answers::*;
 const SIZES: [usize; 5] = [8, 16, 24, 64, 128];
 const COUNTS: [usize; 8] = [0, 1, 63, 64, 65, 127, 128, 129];
 
-/// A sampler's case: the call of start, the pieces fed, the subsets counted.
+/// A sampler's case: the call of start, the feeds, the subsets counted.
 #[derive(Clone)]
 struct Case {
     block_size: usize,
     words: usize,
-    pieces: Vec<Vec<u8>>,
+    feeds: Vec<Feed>,
     subsets: Vec<Subset>,
 }
 
@@ -37,10 +37,10 @@ fn main() {
     let mut sheet = Sheet::default();
     sheet.note("Cases of the counting crate. Made, with their answers, by `tools/answers/run counting REFERENCE`; no answer is our own program's.");
     sheet.note("Bits and bins of a block: the reference's bit_value_in_block and bits_block_eval.");
-    sheet.note("Rows: its transform_data on the bytes held, each 128-wide word as two of 64, the low half first, up to the word of the last block.");
+    sheet.note("Rows: its transform_data on the blocks in the order completed, each 128-wide word as two of 64, the low half first, up to the word of the last block.");
     sheet.note("Counts: its multi_eval_neg for every bin, on transform_data and negate of the blocks of the stretch alone, and its multi_eval. 99999999 alone where");
     sheet.note("the stretch ends before it begins, or after the blocks that the rows hold.");
-    sheet.note("Refusals and bytes held: the rules of start and feed, in a dozen lines of that tool, since the reference takes a recording whole.");
+    sheet.note("Refusals and blocks: the rules of start and feed, in a few lines of that tool, since the reference takes a recording whole.");
     sheet.note(&order::note("recordings of 4,095 to 8,193 blocks by turns, and the last ones as they are drawn"));
     sheet.note("Single blocks. Each: the bit order; the number of bytes and the bytes; the number of bits and the bits.");
     block_cases(&mut sheet, &mut draws);
@@ -50,7 +50,7 @@ fn main() {
     cases.extend(both(stretch_cases(&mut draws)));
     cases.extend(turned(vec![chunk_case(&mut draws)], mirror));
     cases.extend(run::sample().filter_map(short).map(case_of_run));
-    sheet.note("Samplers. Each: B, the bit order and the number of lent words; the number of pieces, and for each its length and its bytes;");
+    sheet.note("Samplers. Each: B, the bit order and the number of lent words; 0 for a start; the number of feeds, and for each its board, its length and its bytes;");
     sheet.note("where B is valid, the number of subsets, and for each the first block and the end of a stretch, its width and its bits.");
     sheet.note(&run::note());
     sheet.case([cases.len()]);
@@ -91,28 +91,29 @@ fn block_cases(sheet: &mut Sheet, draws: &mut Draws) {
 fn edge_cases(draws: &mut Draws) -> Vec<Case> {
     let mut cases = Vec::new();
     for block_size in [0, 4, 7, 12, 4095, 4104, 65536] {
-        cases.push(Case { block_size, words: 64, pieces: vec![], subsets: vec![] });
+        cases.push(Case { block_size, words: 64, feeds: vec![], subsets: vec![] });
     }
     // After a refused start the sampler is none of these words.
-    cases.push(Case { block_size: 20, words: 64, pieces: vec![vec![], vec![1]], subsets: vec![] });
-    cases.push(Case { block_size: 0, words: 0, pieces: vec![vec![]], subsets: vec![] });
-    // No whole word to a row: only an empty piece fits.
+    cases.push(Case { block_size: 20, words: 64, feeds: alone(vec![vec![], vec![1]]), subsets: vec![] });
+    cases.push(Case { block_size: 0, words: 0, feeds: alone(vec![vec![]]), subsets: vec![] });
+    // No whole word to a row: no block fits.
     for (block_size, words) in [(8, 0), (8, 7), (128, 127)] {
-        cases.push(Case { block_size, words, pieces: vec![vec![], vec![255], vec![]], subsets: whole(vec![vec![0], vec![1, 2]]) });
+        let pieces = vec![vec![], vec![255; block_size / 8 - 1], vec![255], vec![]];
+        cases.push(Case { block_size, words, feeds: alone(pieces), subsets: whole(vec![vec![0], vec![1, 2]]) });
     }
-    // A byte too many, the last byte that fits, one more, nothing more.
+    // A block too many, all but a byte of the last block that fits, a block too many again, that byte, a block more, all but a byte of it, that byte, nothing.
     for (block_size, words) in [(8, 8), (8, 15), (16, 40), (24, 47), (64, 64)] {
-        let capacity = capacity_bytes(block_size, words);
+        let (size, all) = (block_size / 8, capacity_bytes(block_size, words));
         let first = 3 + draws.below(20);
-        let lengths = [first, capacity - first + 1, capacity - first - 1, 2, 1, 1, 0];
+        let lengths = [first, all - first + size, all - first - 1, size + 1, 1, size, size - 1, 1, 0];
         let pieces = lengths.iter().map(|length| draws.bytes(*length)).collect();
-        cases.push(Case { block_size, words, pieces, subsets: subsets(draws, block_size) });
+        cases.push(Case { block_size, words, feeds: alone(pieces), subsets: subsets(draws, block_size) });
     }
     // The largest block, whose rows are a word each.
     for (words, bytes) in [(4096, 1030), (4100, 512), (8191, 511)] {
         let recording = draws.bytes(bytes);
         let pieces = cut(draws, &recording, 3);
-        cases.push(Case { block_size: 4096, words, pieces, subsets: whole(vec![vec![4095], vec![0, 2047, 2048, 4095]]) });
+        cases.push(Case { block_size: 4096, words, feeds: alone(pieces), subsets: whole(vec![vec![4095], vec![0, 2047, 2048, 4095]]) });
     }
     cases
 }
@@ -129,8 +130,8 @@ fn counted_cases(draws: &mut Draws) -> Vec<Case> {
             let stride = bytes.div_ceil(64 * size) + (j % 2) * draws.below(3);
             let words = stride * block_size + draws.below(block_size);
             let recording = recording(draws, i + j, bytes);
-            let pieces = pieces(draws, block_size, words, &recording);
-            cases.push(Case { block_size, words, pieces, subsets: subsets(draws, block_size) });
+            let feeds = feeds(draws, block_size, words, &recording);
+            cases.push(Case { block_size, words, feeds, subsets: subsets(draws, block_size) });
         }
     }
     cases
@@ -143,7 +144,7 @@ fn long_cases(draws: &mut Draws) -> Vec<Case> {
         let recording = recording(draws, kind, blocks);
         let pieces = cut(draws, &recording, 3);
         let words = 8 * blocks.div_ceil(64) + 5;
-        cases.push(Case { block_size: 8, words, pieces, subsets: subsets(draws, 8) });
+        cases.push(Case { block_size: 8, words, feeds: alone(pieces), subsets: subsets(draws, 8) });
     }
     cases
 }
@@ -155,7 +156,7 @@ fn stretch_cases(draws: &mut Draws) -> Vec<Case> {
         let size = block_size / 8;
         let recording = recording(draws, kind, n * size + size / 2);
         let words = block_size * (n + 1).div_ceil(64) + draws.below(block_size);
-        let pieces = pieces(draws, block_size, words, &recording);
+        let feeds = feeds(draws, block_size, words, &recording);
         let mut places = vec![0, 1, 63, 64, 65, 127, 128, n];
         places.retain(|place| *place <= n);
         let mut stretches = Vec::new();
@@ -165,7 +166,7 @@ fn stretch_cases(draws: &mut Draws) -> Vec<Case> {
         let held = 64 * (words / block_size);
         stretches.extend([(1, 0), (65, 64), (n, 0), (0, held + 1), (held + 1, held + 1), (0, 1 << 32), (usize::MAX, 0), (0, usize::MAX)]);
         let bits = [draws.subset(block_size, 1), draws.subset(block_size, 3)];
-        cases.push(Case { block_size, words, pieces, subsets: in_stretches(&stretches, &[&bits[0], &bits[1]]) });
+        cases.push(Case { block_size, words, feeds, subsets: in_stretches(&stretches, &[&bits[0], &bits[1]]) });
     }
     cases
 }
@@ -176,7 +177,7 @@ fn chunk_case(draws: &mut Draws) -> Case {
     let recording: Vec<u8> = (0..33_000).map(|_| draws.below(10) as u8).collect();
     let pieces = cut(draws, &recording, 3);
     let stretches = [&[(0, 33_000)][..], &CHUNK_ENDS, &SHORT_CHUNK_ENDS].concat();
-    Case { block_size: 8, words: 8 * 516 + 3, pieces, subsets: in_stretches(&stretches, &[&[4], &[5, 7], &[4, 5, 6, 7]]) }
+    Case { block_size: 8, words: 8 * 516 + 3, feeds: alone(pieces), subsets: in_stretches(&stretches, &[&[4], &[5, 7], &[4, 5, 6, 7]]) }
 }
 
 /// The same bits of each byte by their numbers in the other bit order: of the chunks' digits the high half of a byte is zeros.
@@ -186,23 +187,23 @@ fn mirror(case: &mut Case) {
     }
 }
 
-/// A short recording of the differential run.
+/// A short recording of the differential run that begins with a start.
 fn short(case: run::Case) -> Option<run::Recording> {
     let run::Case::Recording(drawn) = case else { return None };
-    (drawn.bytes() <= 200 && drawn.block_size <= 128 && drawn.searchable() && drawn.k <= 8).then_some(drawn)
+    (drawn.carried.is_none() && drawn.bytes() <= 200 && drawn.block_size <= 128 && drawn.searchable() && drawn.k <= 8).then_some(drawn)
 }
 
 /// The subset that the reference finds in it, counted over all blocks and over the drawn stretch where that is another of its blocks.
 fn case_of_run(drawn: run::Recording) -> (Case, bool) {
     let another = drawn.within() && drawn.stretch != (0..drawn.blocks());
-    let run::Recording { block_size, words, pieces, stretch, k, low_first, .. } = drawn;
-    let held = held(block_size, words, &pieces);
+    let held = drawn.plain().held;
+    let run::Recording { block_size, words, feeds, stretch, k, low_first, .. } = drawn;
     let bits = bottomup(&high_first(&held, low_first), block_size, k, 1).unwrap().bits;
     let mut subsets = whole(vec![bits.clone()]);
     if another {
         subsets.push(Subset { stretch: Some((stretch.start, stretch.end)), bits });
     }
-    (Case { block_size, words, pieces, subsets }, low_first)
+    (Case { block_size, words, feeds, subsets }, low_first)
 }
 
 fn subsets(draws: &mut Draws, block_size: usize) -> Vec<Subset> {
@@ -219,17 +220,14 @@ fn subsets(draws: &mut Draws, block_size: usize) -> Vec<Subset> {
 }
 
 fn write_case(sheet: &mut Sheet, case: &Case, low_first: bool) {
-    let held = write_recording(sheet, case.block_size, low_first, case.words, &case.pieces);
-    if !valid(case.block_size) {
-        return;
-    }
-    let n = held.len() / (case.block_size / 8);
+    let Some(plain) = write_recording(sheet, case.block_size, low_first, case.words, &Begin::Start, &case.feeds) else { return };
+    let n = plain.blocks();
     sheet.case([case.subsets.len()]);
     for Subset { stretch, bits } in &case.subsets {
         let (first, end) = stretch.unwrap_or((0, n));
         sheet.case([first, end, bits.len()].iter().chain(bits));
     }
-    answer_counts(sheet, case, &high_first(&held, low_first));
+    answer_counts(sheet, case, &high_first(&plain.held, low_first));
 }
 
 fn answer_counts(sheet: &mut Sheet, case: &Case, held: &[u8]) {

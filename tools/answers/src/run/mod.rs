@@ -24,14 +24,17 @@ pub enum Case {
 }
 
 impl Case {
-    /// A case of the run with a seed, drawn from the seed and its number alone. One of a thousand is a long recording. The stretch that is searched has
-    /// draws of its own, on which nothing else of a case depends, and so has the bit order.
+    /// A case of the run with a seed, drawn from the seed and its number alone. One of a thousand is a long recording. The boards have draws of their own, and so
+    /// have the stretch that is searched and the bit order, on which nothing else of a case depends.
     pub fn of_run(seed: u64, number: u64) -> Case {
         let start = start_of(seed, number);
         let draws = &mut Draws::new(start);
         let case = if number % 1000 == 999 { Case::Recording(Recording::long(draws)) } else { Case::draw(draws) };
         match case {
-            Case::Recording(drawn) => Case::Recording(drawn.whole_or_part(&mut Draws::new(!start)).in_bit_order(&mut bit_orders(start))),
+            Case::Recording(drawn) => {
+                let drawn = drawn.on_boards(&mut boards(start));
+                Case::Recording(drawn.whole_or_part(&mut Draws::new(!start)).in_bit_order(&mut bit_orders(start)))
+            }
             Case::Judged(drawn) => Case::Judged(drawn.in_bit_order(&mut bit_orders(start))),
             other => other,
         }
@@ -52,6 +55,11 @@ impl Case {
 /// Where the draws of a case begin.
 pub fn start_of(seed: u64, number: u64) -> u64 {
     seed.wrapping_add(number.wrapping_mul(0xA076_1D64_78BD_642F))
+}
+
+/// The draws of a case's boards, apart from those that begin at its start.
+pub fn boards(start: u64) -> Draws {
+    Draws::new(start ^ 0x626F_6172_6473)
 }
 
 /// The draws of a case's bit order, apart from those that begin at its start.

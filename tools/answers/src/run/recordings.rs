@@ -1,23 +1,26 @@
-//! Recordings fed in pieces, with a search after them.
+//! Recordings of boards fed in pieces, with a search after them.
 
 use super::no_bit_order;
-use crate::{capacity_bytes, choose, cut, recording, Draws};
+use crate::{alone, capacity, choose, cut, dealt, earlier_bytes, recording, Draws, Feed, Plain};
 use std::ops::Range;
 
-/// A block size, the number of lent words, the pieces, the stretch that is searched, a width, and how many entries more than enough the buffers and the
-/// store have: -1 is one too few. A stale sampler says a byte more than capacity.
+/// A block size, the number of lent words, the feeds, the stretch that is searched, a width, and how many entries more than enough the buffers and the
+/// store have: -1 is one too few.
 #[derive(Clone, Debug)]
 pub struct Recording {
     pub block_size: usize,
     pub words: usize,
-    pub pieces: Vec<Vec<u8>>,
+    /// How many of the feeds come before a carry-over, under the earlier rule, where there is one: these are board 0's.
+    pub carried: Option<usize>,
+    pub feeds: Vec<Feed>,
     /// From the first block to before the end; it may be none of the recording.
     pub stretch: Range<usize>,
     pub k: usize,
     pub bins: isize,
     pub order: isize,
     pub store: isize,
-    pub stale: bool,
+    /// A stale sampler says that this board has a block of unfinished bytes; for a board above 3, that there is a block more than capacity.
+    pub stale: Option<usize>,
     /// Whether the low bit comes first.
     pub low_first: bool,
     /// A number that stands for no bit order, in the sampler after the feeds.
@@ -44,17 +47,18 @@ impl Recording {
         let stride = (blocks + 1).div_ceil(64) + draws.below(2);
         let words = block_size * stride + draws.below(block_size);
         let pieces = cut(draws, &held, parts);
-        let pieces = between(draws, pieces, capacity_bytes(block_size, words));
+        let feeds = alone(between(draws, pieces, block_size, words));
         Recording {
             block_size,
             words,
-            pieces,
+            carried: None,
+            feeds,
             stretch: 0..blocks,
             k: if draws.below(200) == 0 { [0, 9.max(block_size + 1), 21, 1 << 40][draws.below(4)] } else { k },
             bins: slack(draws),
             order: slack(draws),
             store: store_slack(draws),
-            stale: draws.below(300) == 0,
+            stale: (draws.below(300) == 0).then_some(4),
             low_first: false,
             mark: None,
         }
@@ -70,9 +74,9 @@ impl Recording {
         let held = recording(draws, kind, blocks * size + rest);
         let words = block_size * (blocks + 1).div_ceil(64);
         let pieces = cut(draws, &held, 3);
-        let pieces = between(draws, pieces, capacity_bytes(block_size, words));
+        let feeds = alone(between(draws, pieces, block_size, words));
         let k = 1 + draws.below(3);
-        Recording { block_size, words, pieces, stretch: 0..blocks, k, bins: 0, order: 0, store: 1, stale: false, low_first: false, mark: None }
+        Recording { k, store: 1, ..Recording::of(block_size, words, feeds, blocks) }
     }
 
     /// One of few values or of a short period, so that scores tie, about a word's end long, or, one of thirty each, a chunk's or a short chunk's.
@@ -92,11 +96,45 @@ impl Recording {
         };
         let words = block_size * ((blocks + 1).div_ceil(64) + draws.below(2)) + draws.below(block_size);
         let pieces = cut(draws, &held, 3);
-        let pieces = between(draws, pieces, capacity_bytes(block_size, words));
+        let feeds = alone(between(draws, pieces, block_size, words));
         let k = if draws.below(100) == 0 { [0, block_size + 1, 21][draws.below(3)] } else { 1 + draws.below(widest) };
         let (bins, order, store) = (slack(draws), slack(draws), store_slack(draws));
-        let stale = draws.below(300) == 0;
-        Recording { block_size, words, pieces, stretch: 0..blocks, k, bins, order, store, stale, low_first: false, mark: None }
+        let stale = (draws.below(300) == 0).then_some(4);
+        Recording { k, bins, order, store, stale, ..Recording::of(block_size, words, feeds, blocks) }
+    }
+
+    /// These feeds from a start, the high bit first, searched in so many blocks for one bit, with buffers of just the entries needed.
+    pub fn of(block_size: usize, words: usize, feeds: Vec<Feed>, blocks: usize) -> Recording {
+        let (carried, stale, low_first, mark) = (None, None, false, None);
+        Recording { block_size, words, carried, feeds, stretch: 0..blocks, k: 1, bins: 0, order: 0, store: 0, stale, low_first, mark }
+    }
+
+    /// The same bytes on one board, as they are; or dealt to two or all four; or some of the feeds before a carry-over. One of eight has feeds of boards that
+    /// there are not. All blocks are searched.
+    pub fn on_boards(self, draws: &mut Draws) -> Recording {
+        let mut drawn = self;
+        match draws.below(6) {
+            0 => {}
+            1 => drawn.feeds.iter_mut().for_each(|feed| feed.board = 3 * draws.below(2)),
+            2 => drawn.feeds.iter_mut().for_each(|feed| feed.board = draws.below(4)),
+            way => {
+                if way == 5 {
+                    drawn.carried = Some(draws.below(drawn.feeds.len() + 1));
+                }
+                let later = drawn.feeds.split_off(drawn.carried.unwrap_or(0));
+                drawn.feeds.extend(later.into_iter().flat_map(|feed| dealt(draws, drawn.block_size, &feed.piece, 60)));
+            }
+        }
+        if draws.below(8) == 0 {
+            for board in [4, 5, 255, 256, 1 << 32, (1 << 32) + 3, usize::MAX] {
+                let (from, piece) = (drawn.carried.unwrap_or(0), draws.below(5));
+                let place = from + draws.below(drawn.feeds.len() + 1 - from);
+                drawn.feeds.insert(place, Feed { board, piece: draws.bytes(piece) });
+            }
+        }
+        drawn.stale = drawn.stale.map(|_| draws.below(5));
+        drawn.stretch = 0..drawn.blocks();
+        drawn
     }
 
     /// The same, searched whole or, as often, in a drawn stretch.
@@ -114,15 +152,28 @@ impl Recording {
         Recording { low_first: draws.below(2) == 1, mark: no_bit_order(draws), ..self }
     }
 
-    /// The bytes of the pieces that are not refused.
-    pub fn taken(&self) -> usize {
-        let capacity = capacity_bytes(self.block_size, self.words);
-        self.pieces.iter().fold(0, |taken, piece| if taken + piece.len() <= capacity { taken + piece.len() } else { taken })
+    /// The plain recording after all feeds.
+    pub fn plain(&self) -> Plain {
+        self.begun().feed_all(&self.feeds[self.carried.unwrap_or(0)..])
     }
 
-    /// The whole blocks of these.
+    /// The plain recording before the first feed under the rule of boards.
+    pub fn begun(&self) -> Plain {
+        match self.carried {
+            None => Plain::start(self.block_size, self.words),
+            Some(feeds) => Plain::carry_over(self.block_size, self.words, &self.earlier(feeds)),
+        }
+    }
+
+    /// The bytes that so many feeds leave under the earlier rule.
+    pub fn earlier(&self, feeds: usize) -> Vec<u8> {
+        let pieces: Vec<Vec<u8>> = self.feeds[..feeds].iter().map(|feed| feed.piece.clone()).collect();
+        earlier_bytes(self.block_size, self.words, &pieces)
+    }
+
+    /// n.
     pub fn blocks(&self) -> usize {
-        self.taken() / (self.block_size / 8)
+        self.plain().blocks()
     }
 
     /// Whether the recording has the blocks of the stretch.
@@ -132,7 +183,7 @@ impl Recording {
 
     /// The bytes of all pieces, refused ones among them.
     pub fn bytes(&self) -> usize {
-        self.pieces.iter().map(Vec::len).sum()
+        self.feeds.iter().map(|feed| feed.piece.len()).sum()
     }
 
     /// Whether the block has subsets of this width that a search takes.
@@ -214,14 +265,14 @@ fn store_slack(draws: &mut Draws) -> isize {
     if few.min(many) < 0 { -1 } else { few + 30 * many }
 }
 
-/// The pieces with empty ones and refused ones, a little or much too long, between them.
-fn between(draws: &mut Draws, pieces: Vec<Vec<u8>>, capacity: usize) -> Vec<Vec<u8>> {
+/// The pieces with empty ones and, a block or much more too long, refused ones between them.
+fn between(draws: &mut Draws, pieces: Vec<Vec<u8>>, block_size: usize, words: usize) -> Vec<Vec<u8>> {
     let (mut all, mut held) = (Vec::new(), 0);
     for piece in pieces {
         if draws.below(6) == 0 {
             all.push(vec![]);
         }
-        let long = capacity - held + 1 + draws.below(9);
+        let long = (capacity(block_size, words) + 1) * (block_size / 8) - held + draws.below(9);
         if draws.below(6) == 0 && (long < 2000 || draws.below(50) == 0) {
             all.push(draws.bytes(long));
         }

@@ -48,6 +48,18 @@ fn few(draws: &mut Draws, recording: &[u8]) -> Vec<Vec<u8>> {
     pieces
 }
 
+/// .. and one that completes a block too many where it comes, unless that takes too much room here.
+fn with_refused(draws: &mut Draws, block_size: usize, words: usize, recording: &[u8]) -> Vec<Vec<u8>> {
+    let mut pieces = few(draws, recording);
+    let place = 1 + draws.below(pieces.len() - 1);
+    let held: usize = pieces[..place].iter().map(Vec::len).sum();
+    let long = capacity_bytes(block_size, words) + block_size / 8 - held;
+    if long <= 500 {
+        pieces.insert(place, draws.bytes(long));
+    }
+    pieces
+}
+
 /// A recording whose winner is not the first subset, unless there is one alone.
 fn telling(draws: &mut Draws, block_size: usize, k: usize, kind: usize, bytes: usize) -> Vec<u8> {
     loop {
@@ -145,19 +157,20 @@ fn nothing_held(draws: &mut Draws) -> Vec<Case> {
         cases.push(replay(block_size, k, words, &[], 2));
         cases.push(replay(block_size, k, words, &[vec![]], 1));
         cases.push(replay(block_size, k, words, &[vec![], vec![], vec![]], 0));
-        let past = capacity_bytes(block_size, words) + 1;
+        let past = capacity_bytes(block_size, words) + block_size / 8;
         cases.push(replay(block_size, k, words, &[draws.bytes(past), vec![], draws.bytes(past + 3)], 1));
     }
     cases
 }
 
-/// Up to capacity and past it: a byte too many, the last byte that fits, one more, nothing more; and one piece of just as many.
+/// Up to capacity and past it: a block too many, all but a byte of the last block that fits, a block too many again, that byte, a block more, all but a byte of
+/// it, that byte, nothing more; and one piece of just as many.
 fn full(draws: &mut Draws) -> Vec<Case> {
     let mut cases = Vec::new();
     for (i, (block_size, k, words)) in [(8, 3, 8), (8, 2, 17), (8, 5, 31), (16, 2, 16), (16, 3, 31), (24, 2, 25)].into_iter().enumerate() {
-        let capacity = capacity_bytes(block_size, words);
+        let (size, capacity) = (block_size / 8, capacity_bytes(block_size, words));
         let first = 3 + draws.below(20);
-        let lengths = [first, capacity - first + 1, capacity - first - 1, 2, 1, 1, 0, 1];
+        let lengths = [first, capacity - first + size, capacity - first - 1, size + 1, 1, size, size - 1, 1, 0];
         let pieces: Vec<Vec<u8>> = lengths.iter().map(|length| recording(draws, i + 2 * (length % 2), *length)).collect();
         cases.push(replay(block_size, k, words, &pieces, i % 3));
         let whole = recording(draws, i, capacity);
@@ -208,7 +221,7 @@ fn widths(draws: &mut Draws) -> Vec<Case> {
             let bytes = (4 + draws.below(20)) * size + draws.below(size);
             let held = recording(draws, i + 3 * turn, bytes);
             let words = block_size + draws.below(block_size);
-            let pieces = if block_size < 24 { pieces(draws, block_size, words, &held) } else { few(draws, &held) };
+            let pieces = if block_size < 24 { with_refused(draws, block_size, words, &held) } else { few(draws, &held) };
             cases.push(replay(block_size, k, words, &pieces, turn));
         }
     }
@@ -243,7 +256,7 @@ fn unfinished(draws: &mut Draws) -> Vec<Case> {
         let size = block_size / 8;
         cases.push(replay(block_size, 2, block_size, &[vec![], vec![0xFF; size - 1]], 1));
         for rest in 0..size {
-            // Ones in the unfinished block, which are set and never counted.
+            // Ones in the unfinished block, which never enters the words.
             let mut held = recording(draws, 5 * (rest % 2), 3 * size);
             held.extend(vec![0xFF; rest]);
             cases.push(replay(block_size, 1 + rest % 2, block_size, &few(draws, &held), 0));
@@ -273,20 +286,21 @@ fn longest_block(draws: &mut Draws) -> Vec<Case> {
     vec![replay(4096, 1, 4099, &few(draws, &long), 1), Case { store: wide.store - 3, ..wide.clone() }, wide]
 }
 
-/// A short recording of the differential run in four pieces or more, replayed as it was cut there; a buffer has one entry too few, just enough, or one or two
+/// A short recording of the differential run in four pieces or more, replayed as it was cut there, on one board; a buffer has one entry too few, just enough, or one or two
 /// more, the store also some more.
 fn case_of_run(case: run::Case) -> Option<(Case, bool)> {
     let run::Case::Recording(drawn) = case else { return None };
     let (block_size, words, k) = (drawn.block_size, drawn.words, drawn.k);
     let searchable = drawn.searchable();
     // As much as the program's arrays hold, and little to print.
-    if drawn.pieces.len() < 4 || drawn.bytes() > 80 || words > 100 || (searchable && (k > 5 || store_entries(block_size, k) > STORE - run::STORE_SLACK)) {
+    if drawn.feeds.len() < 4 || drawn.feeds.len() > LENGTHS || drawn.bytes() > 80 || words > 100 || (searchable && (k > 5 || store_entries(block_size, k) > STORE - run::STORE_SLACK)) {
         return None;
     }
     // Where the width is refused, any buffer will do.
     let (m, store) = if searchable { (1 << k, store_entries(block_size, k)) } else { (2, 2) };
     let entries = |needed: usize, more: isize| (needed as isize + more) as usize;
     let (bins, order, store) = (entries(m, drawn.bins), entries(m, drawn.order), entries(store, drawn.store));
-    let lengths = drawn.pieces.iter().map(Vec::len).collect();
-    Some((Case { block_size, k, words, bins, order, store, recording: drawn.pieces.concat(), lengths }, drawn.low_first))
+    let pieces: Vec<Vec<u8>> = drawn.feeds.into_iter().map(|feed| feed.piece).collect();
+    let lengths = pieces.iter().map(Vec::len).collect();
+    Some((Case { block_size, k, words, bins, order, store, recording: pieces.concat(), lengths }, drawn.low_first))
 }

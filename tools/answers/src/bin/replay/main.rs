@@ -25,10 +25,9 @@ const ENTRY: usize = 99;
 fn main() {
     let mut sheet = Sheet::default();
     sheet.note("Cases of the replay crate. Made, with their answers, by `tools/answers/run replay REFERENCE`; no answer is our own program's.");
-    sheet.note("Findings: the reference's bottomup on the bytes held, with threads = 1; where the store suffices, they agree where threads = 0 gives the same.");
-    sheet.note("Counts: its evaluate_histogram on those bytes; of a store its multi_eval on transform_data of them. Refusals, refused feeds, the entries S that a store");
-    sheet.note("needs and the words by the rules in that tool, where the row bits below n are held against transform_data. Every word is lent with all ones, every other");
-    sheet.note("entry as 99.");
+    sheet.note("Findings: the reference's bottomup on the blocks held, with threads = 1; where the store suffices, they agree where threads = 0 gives the same.");
+    sheet.note("Counts: its evaluate_histogram on those blocks; of a store its multi_eval on transform_data of them, by which the words are, too. Refusals, refused feeds");
+    sheet.note("and the entries S that a store needs by the rules in that tool. Every word is lent with all ones, every other entry as 99.");
     sheet.note(&order::note("the last ones as they are drawn"));
     sheet.note("Each: B, the bit order, k, how many words, bins, entries of the order and of the store are lent; the number of the recording's bytes, and each; the");
     sheet.note("number of lengths, and each.");
@@ -67,40 +66,15 @@ fn refusal(case: &Case) -> usize {
     }
 }
 
-/// The bytes held after all pieces, and how many feeds are refused: one that would pass capacity is, and adds nothing.
-fn fed(case: &Case) -> (Vec<u8>, usize) {
-    let (mut held, mut refused, mut at) = (Vec::new(), 0, 0);
+/// The plain recording after all pieces, which are board 0's, and how many feeds are refused.
+fn fed(case: &Case) -> (Plain, usize) {
+    let (mut plain, mut refused, mut at) = (Plain::start(case.block_size, case.words), 0, 0);
     for length in &case.lengths {
-        let piece = &case.recording[at..at + length];
+        let piece = case.recording[at..at + length].to_vec();
         at += length;
-        if held.len() + length > capacity_bytes(case.block_size, case.words) {
-            refused += 1;
-        } else {
-            held.extend(piece);
-        }
+        refused += (plain.feed(&Feed { board: 0, piece }) != 0) as usize;
     }
-    (held, refused)
-}
-
-/// The words after start and all feeds: bit b of block e at bit e mod 64 of word b * S + e / 64, an unfinished block's among them, and all else 0.
-fn words_after(case: &Case, low_first: bool, held: &[u8]) -> Vec<u64> {
-    let size = case.block_size / 8;
-    let stride = case.words / case.block_size;
-    let mut words = vec![0u64; case.words];
-    for (t, byte) in held.iter().enumerate() {
-        for i in 0..8 {
-            let (e, b) = (t / size, 8 * (t % size) + i);
-            if byte >> if low_first { i } else { 7 - i } & 1 == 1 {
-                words[b * stride + e / 64] |= 1 << (e % 64);
-            }
-        }
-    }
-    let rows = transform_data(&high_first(held, low_first), case.block_size);
-    let n = rows.num_of_blocks();
-    for (b, e) in (0..case.block_size).flat_map(|b| (0..n).map(move |e| (b, e))) {
-        assert_eq!(words[b * stride + e / 64] >> (e % 64) & 1, rows.word(b, e / 64) >> (e % 64) & 1);
-    }
-    words
+    (plain, refused)
 }
 
 fn write_case(sheet: &mut Sheet, case: &Case, low_first: bool) {
@@ -122,8 +96,8 @@ fn write_case(sheet: &mut Sheet, case: &Case, low_first: bool) {
 
 /// The lines of a case that is not refused.
 fn answer(sheet: &mut Sheet, case: &Case, low_first: bool) {
-    let (held, refused) = fed(case);
-    let blocks = high_first(&held, low_first);
+    let (plain, refused) = fed(case);
+    let blocks = high_first(&plain.held, low_first);
     let layered = case.store >= store_entries(case.block_size, case.k);
     let finding = bottomup(&blocks, case.block_size, case.k, 1).unwrap();
     let agree = bottomup(&blocks, case.block_size, case.k, if layered { 0 } else { 1 }).unwrap() == finding;
@@ -132,7 +106,7 @@ fn answer(sheet: &mut Sheet, case: &Case, low_first: bool) {
     line.resize(26, 0);
     line.extend([finding.division as u64, finding.z.to_bits(), low_first as u64]);
     sheet.answer(line);
-    sheet.answer(words_after(case, low_first, &held));
+    sheet.answer(words_after(&plain, low_first, &Begin::Start));
     let mut bins = evaluate_histogram(&finding, &blocks).bins;
     bins.resize(case.bins, ENTRY);
     sheet.answer(bins);

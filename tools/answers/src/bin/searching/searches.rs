@@ -4,6 +4,7 @@ use crate::binomial;
 use answers::order::{both, high_first, reversed, turned};
 use answers::*;
 
+mod boards;
 mod stretches;
 
 /// The most entries of a store, for which the program has room.
@@ -14,8 +15,14 @@ const STORE: usize = 65_536;
 struct Case {
     block_size: usize,
     words: usize,
-    pieces: Vec<Vec<u8>>,
+    begin: Begin,
+    feeds: Vec<Feed>,
     searches: Vec<Search>,
+}
+
+/// A recording of one board from a start.
+fn recorded(block_size: usize, words: usize, pieces: Vec<Vec<u8>>, searches: Vec<Search>) -> Case {
+    Case { block_size, words, begin: Begin::Start, feeds: alone(pieces), searches }
 }
 
 /// The stretch where it is not from 0 to the sampler's n, the width, the lengths of the buffers and the store, and the sampler where it is not the one last
@@ -35,15 +42,9 @@ struct Search {
 struct Sampler {
     block_size: usize,
     words: usize,
-    taken: usize,
+    blocks: usize,
     turned: bool,
-}
-
-impl Sampler {
-    /// n; 0 where a block would have no byte.
-    fn blocks(self) -> usize {
-        self.taken.checked_div(self.block_size / 8).unwrap_or(0)
-    }
+    lengths: [usize; 4],
 }
 
 pub fn write(sheet: &mut Sheet, draws: &mut Draws) {
@@ -55,14 +56,17 @@ pub fn write(sheet: &mut Sheet, draws: &mut Draws) {
     cases.extend(turned(tied_divisions(draws), reverse));
     cases.extend(both(long(draws)));
     cases.extend(stretches::cases(draws));
+    cases.extend(order::by_turns(boards::cases(draws)));
     cases.extend(run::sample().filter_map(case_of_run));
-    sheet.note("Searches: the reference's bottomup on the blocks of the stretch alone, with threads = 0 where the store has the S entries needed and S is at most 2^32,");
+    sheet.note("Searches: the reference's bottomup on the blocks of the stretch alone, in the order completed, with threads = 0 where the store has the S entries needed and S is at most 2^32,");
     sheet.note("else with threads = 1; the winner's counts by its evaluate_histogram. Counts of a store: its multi_eval on transform_data of these blocks. Refusals, and S,");
     sheet.note("by the rules in that tool.");
-    sheet.note(&order::note("the last ones as they are drawn"));
-    sheet.note("Each: B, the bit order and the number of lent words; the number of pieces, and for each its length and its bytes; the number of searches, and for each");
-    sheet.note("first and end, k, the lengths of bin buffer, order buffer and store, and 0, or 1 with another sampler's B, words, T and bit order. Answer: a line for");
-    sheet.note("the calls of start and feed; for each search, first with the store, then with none: a line with refusal, B, width, 20 bits, division, the pattern of z");
+    sheet.note(&order::note("recordings of four boards by turns, and the last ones as they are drawn"));
+    sheet.note("Each: B, the bit order and the number of lent words; 0 for a start, or 1 for a carry-over, with what the earlier sampler says of its words and of the bytes");
+    sheet.note("taken, 1 where the words are all ones before they are laid, the number of bytes laid and each; the number of feeds, and for each its board, its length and");
+    sheet.note("its bytes; the number of searches, and for each first and end, k, the lengths of bin buffer, order buffer and store, and 0, or 1 with another sampler's B,");
+    sheet.note("words, n, bit order and four lengths. Answer: a line with the refusal of the start or the carry-over, for each feed its refusal, n and the unfinished bytes of");
+    sheet.note("its board, and the bit order; for each search, first with the store, then with none: a line with refusal, B, width, 20 bits, division, the pattern of z");
     sheet.note("and the bit order; a line with the counts, one with the order, and one with how many other entries of each buffer and of the store, past S where it has S,");
     sheet.note("are no longer as lent; then, where it has S, the sum of (i + 1) x entry i of the store for i below S, modulo 2^64, else 0, as where the search is refused.");
     sheet.note(&run::note());
@@ -74,8 +78,11 @@ pub fn write(sheet: &mut Sheet, draws: &mut Draws) {
 
 /// The same blocks in the other bit order.
 fn reverse(case: &mut Case) {
-    for piece in &mut case.pieces {
-        *piece = reversed(piece);
+    if let Begin::CarryOver(earlier) = &mut case.begin {
+        earlier.bytes = reversed(&earlier.bytes);
+    }
+    for feed in &mut case.feeds {
+        feed.piece = reversed(&feed.piece);
     }
 }
 
@@ -101,13 +108,13 @@ fn search(block_size: usize, k: usize, more: usize) -> Search {
 fn examples() -> Vec<Case> {
     let mut cases = Vec::new();
     for (k, recording) in [(1, vec![0x80; 4]), (1, vec![0xFF, 0x00]), (3, vec![]), (2, vec![0x00, 0x00, 0xFF, 0xFF])] {
-        cases.push(Case { block_size: 8, words: 8, pieces: vec![recording], searches: vec![search(8, k, 1)] });
+        cases.push(recorded(8, 8, vec![recording], vec![search(8, k, 1)]));
     }
     let biased = [0x02, 0xFF].repeat(5);
     for (low_first, bit) in [(false, 6), (true, 1)] {
         assert_eq!(bottomup(&high_first(&biased, low_first), 8, 1, 1).unwrap().bits, [bit]);
     }
-    cases.push(Case { block_size: 8, words: 8, pieces: vec![biased], searches: vec![search(8, 1, 1), search(8, 2, 1)] });
+    cases.push(recorded(8, 8, vec![biased], vec![search(8, 1, 1), search(8, 2, 1)]));
     cases
 }
 
@@ -116,8 +123,8 @@ fn refused(draws: &mut Draws) -> Vec<Case> {
     let mut cases = Vec::new();
     let held = vec![draws.bytes(21), draws.bytes(8)];
     let good = search(8, 2, 1);
-    // A sampler of B = 8 that was lent 17 words: 128 bytes at most.
-    let returned = Sampler { block_size: 8, words: 17, taken: 29, turned: false };
+    // A sampler of B = 8 that was lent 17 words: 128 blocks at most, of a byte each, so that no byte is unfinished.
+    let returned = Sampler { block_size: 8, words: 17, blocks: 29, turned: false, lengths: [0; 4] };
     let mut bad = Vec::new();
     for block_size in [0, 4, 12, 4104, 1 << 32] {
         bad.push(Sampler { block_size, ..returned });
@@ -125,8 +132,11 @@ fn refused(draws: &mut Draws) -> Vec<Case> {
     for words in [0, 16, 18, 1 << 32] {
         bad.push(Sampler { words, ..returned });
     }
-    for taken in [129, 1 << 24, usize::MAX] {
-        bad.push(Sampler { taken, ..returned });
+    for blocks in [129, 1 << 24, usize::MAX] {
+        bad.push(Sampler { blocks, ..returned });
+    }
+    for lengths in [[1, 0, 0, 0], [0, 1, 0, 0], [0, 0, 1, 0], [0, 0, 0, 1], [0, usize::MAX, 0, 0], [0, 0, 1 << 32, 0]] {
+        bad.push(Sampler { lengths, ..returned });
     }
     let mut searches: Vec<Search> = bad.iter().map(|sampler| Search { sampler: Some(*sampler), ..good.clone() }).collect();
     // 4 before 2, 3 and 7, with stores of any length.
@@ -159,31 +169,30 @@ fn refused(draws: &mut Draws) -> Vec<Case> {
         searches.push(Search { stretch: None, k: 1, bins, order, store: 9, sampler: None });
     }
     searches.push(good);
-    cases.push(Case { block_size: 8, words: 17, pieces: held, searches });
+    cases.push(recorded(8, 17, held, searches));
     // After a refused start.
-    cases.push(Case { block_size: 12, words: 24, pieces: vec![vec![1]], searches: vec![search(8, 1, 1), Search { k: 0, ..search(8, 1, 0) }] });
+    cases.push(recorded(12, 24, vec![vec![1]], vec![search(8, 1, 1), Search { k: 0, ..search(8, 1, 0) }]));
     // A sum above 2^32, where buffers that are too short keep the search from starting.
     for (block_size, k) in [(128, 7), (512, 6), (4096, 4), (4096, 20)] {
         let short = Search { stretch: None, k, bins: (1 << k.min(8)) - 1, order: 300, store: 5000, sampler: None };
-        cases.push(Case { block_size, words: block_size, pieces: vec![draws.bytes(3)], searches: vec![short] });
+        cases.push(recorded(block_size, block_size, vec![draws.bytes(3)], vec![short]));
     }
     cases
 }
 
-/// Samplers that say fewer or more bytes than were fed, within capacity: blocks that were not fed are all zeros. And one that says the other bit order, which
-/// its finding has: the words stay as they were fed.
+/// Samplers that say fewer or more blocks than were completed, within capacity: blocks that were not are all zeros. Ones with other unfinished bytes, which no
+/// search sees. And one that says the other bit order, which its finding has: the words stay as they were fed.
 fn other_samplers(draws: &mut Draws) -> Vec<Case> {
     let mut cases = Vec::new();
     for (block_size, words, fed) in [(8, 16, 100), (16, 35, 150), (24, 24, 60)] {
         let pieces = vec![recording(draws, 5, fed)];
-        let mut searches = Vec::new();
-        for taken in [0, 1, fed / 2, fed - 1, fed + 1, capacity_bytes(block_size, words)] {
-            let sampler = Some(Sampler { block_size, words, taken, turned: false });
-            searches.push(Search { sampler, ..search(block_size, 2, 1) });
-        }
-        let sampler = Some(Sampler { block_size, words, taken: fed, turned: true });
-        searches.push(Search { sampler, ..search(block_size, 2, 1) });
-        cases.push(Case { block_size, words, pieces, searches });
+        let (size, n) = (block_size / 8, fed / (block_size / 8));
+        let said = Sampler { block_size, words, blocks: n, turned: false, lengths: [0; 4] };
+        let blocks = [0, 1, n / 2, n - 1, n + 1, capacity(block_size, words)].map(|blocks| Sampler { blocks, ..said });
+        let lengths = [[size - 1; 4], [0, size - 1, 0, size - 1], [0, 0, 0, size], [size, 0, 0, 0]].map(|lengths| Sampler { lengths, ..said });
+        let samplers = blocks.into_iter().chain(lengths).chain([Sampler { turned: true, ..said }]);
+        let searches = samplers.map(|sampler| Search { sampler: Some(sampler), ..search(block_size, 2, 1) }).collect();
+        cases.push(recorded(block_size, words, pieces, searches));
     }
     cases
 }
@@ -195,7 +204,7 @@ fn plain() -> Vec<Case> {
         let size = block_size / 8;
         for recording in [vec![0x00; 9 * size], vec![0xFF; 9 * size], [vec![0x00; 5 * size], vec![0xFF; 5 * size - 1]].concat()] {
             let searches = [1, 2].map(|k| search(block_size, k, 1)).to_vec();
-            cases.push(Case { block_size, words: block_size, pieces: vec![recording], searches });
+            cases.push(recorded(block_size, block_size, vec![recording], searches));
         }
     }
     cases
@@ -216,9 +225,9 @@ fn with_ties(draws: &mut Draws) -> Vec<Case> {
             let recording = recording(draws, 2 * i + j, bytes);
             let stride = bytes.div_ceil(64 * size) + (j % 2) * draws.below(2);
             let words = stride * block_size + draws.below(block_size);
-            let pieces = pieces(draws, block_size, words, &recording);
+            let feeds = feeds(draws, block_size, words, &recording);
             let searches = widths(block_size, j).into_iter().map(|k| search(block_size, k, (j + k) % 3)).collect();
-            cases.push(Case { block_size, words, pieces, searches });
+            cases.push(Case { block_size, words, begin: Begin::Start, feeds, searches });
         }
     }
     cases
@@ -248,7 +257,7 @@ fn tied_divisions(draws: &mut Draws) -> Vec<Case> {
             z_score(n, count, i as f64 / bins.len() as f64).abs()
         };
         if (finding.division + 1..bins.len()).any(|i| size_at(i) == finding.z) {
-            cases.push(Case { block_size: 8, words: 8, pieces: vec![recording], searches: vec![search(8, k, 1)] });
+            cases.push(recorded(8, 8, vec![recording], vec![search(8, k, 1)]));
         }
     }
     cases
@@ -260,10 +269,10 @@ fn long(draws: &mut Draws) -> Vec<Case> {
     for (kind, blocks) in [(0, 4095), (3, 4097)] {
         let recording = recording(draws, kind, blocks);
         let pieces = cut(draws, &recording, 3);
-        cases.push(Case { block_size: 8, words: 8 * blocks.div_ceil(64) + 5, pieces, searches: vec![search(8, 1, 1), search(8, 3, 1)] });
+        cases.push(recorded(8, 8 * blocks.div_ceil(64) + 5, pieces, vec![search(8, 1, 1), search(8, 3, 1)]));
     }
     let recording = recording(draws, 5, 8 * 70);
-    cases.push(Case { block_size: 64, words: 128, pieces: vec![recording], searches: vec![search(64, 4, 1)] });
+    cases.push(recorded(64, 128, vec![recording], vec![search(64, 4, 1)]));
     cases
 }
 
@@ -281,35 +290,44 @@ fn case_of_run(case: run::Case) -> Option<(Case, bool)> {
     let entries = |needed: usize, more: isize| (needed as isize + more) as usize;
     // Where the width is refused, any buffer will do.
     let m = if searchable { 1 << k } else { 2 };
-    let past = Sampler { block_size, words, taken: capacity_bytes(block_size, words) + 1, turned: false };
+    let mut past = Sampler { block_size, words, blocks: 0, turned: false, lengths: [0; 4] };
+    match drawn.stale {
+        Some(board @ 0..=3) => past.lengths[board] = block_size / 8,
+        _ => past.blocks = capacity(block_size, words) + 1,
+    }
     let (bins, order, store) = (entries(m, drawn.bins), entries(m, drawn.order), entries(store as usize, drawn.store));
-    let search = Search { stretch: None, k, bins, order, store, sampler: drawn.stale.then_some(past) };
+    let search = Search { stretch: None, k, bins, order, store, sampler: drawn.stale.map(|_| past) };
     let stretch = Some((drawn.stretch.start, drawn.stretch.end));
     let whole = drawn.stretch == (0..drawn.blocks());
     let searches = if whole { vec![search] } else { vec![search.clone(), Search { stretch, ..search }] };
-    Some((Case { block_size, words, pieces: drawn.pieces, searches }, drawn.low_first))
+    let (begin, later) = match drawn.carried {
+        None => (Begin::Start, &drawn.feeds[..]),
+        Some(feeds) => (Begin::CarryOver(Earlier::of(words, drawn.earlier(feeds))), &drawn.feeds[feeds..]),
+    };
+    Some((Case { block_size, words, begin, feeds: later.to_vec(), searches }, drawn.low_first))
 }
 
 fn write_case(sheet: &mut Sheet, case: &Case, low_first: bool) {
-    let held = write_recording(sheet, case.block_size, low_first, case.words, &case.pieces);
-    // After a refused start every number of the sampler is 0.
-    let returned = if valid(case.block_size) {
-        Sampler { block_size: case.block_size, words: case.words, taken: held.len(), turned: false }
-    } else {
-        Sampler { block_size: 0, words: 0, taken: 0, turned: false }
-    };
+    let plain = write_recording(sheet, case.block_size, low_first, case.words, &case.begin, &case.feeds);
+    let held = plain.as_ref().map_or(vec![], |plain| plain.held.clone());
+    // Where the first call was refused every number of the sampler is 0.
+    let none = Sampler { block_size: 0, words: 0, blocks: 0, turned: false, lengths: [0; 4] };
+    let returned = plain.map_or(none, |plain| {
+        let lengths = plain.tails.each_ref().map(Vec::len);
+        Sampler { block_size: case.block_size, words: case.words, blocks: plain.blocks(), turned: false, lengths }
+    });
     sheet.case([case.searches.len()]);
     for search in &case.searches {
         assert!(search.store <= STORE);
         let sampler = search.sampler.unwrap_or(returned);
-        let (first, end) = search.stretch.unwrap_or((0, sampler.blocks()));
-        // What the sampler says was taken; words that were not fed are zero.
-        let taken = sampler.taken.min(1 << 16);
+        let (first, end) = search.stretch.unwrap_or((0, sampler.blocks));
+        // What the sampler says was completed; words that were not filled are zero.
         let mut seen = high_first(&held, low_first).into_owned();
-        seen.resize(taken, 0);
+        seen.resize(sampler.blocks.min(1 << 16) * (sampler.block_size.min(4096) / 8), 0);
         let refusal = refusal(case, search, sampler);
         let order = (low_first != sampler.turned) as usize;
-        let given = [sampler.block_size, sampler.words, sampler.taken, order];
+        let [a, b, c, d] = sampler.lengths;
+        let given = [sampler.block_size, sampler.words, sampler.blocks, order, a, b, c, d];
         let lengths = [first, end, search.k, search.bins, search.order, search.store];
         sheet.case(lengths.into_iter().chain(match search.sampler {
             None => vec![0],
@@ -326,10 +344,13 @@ fn write_case(sheet: &mut Sheet, case: &Case, low_first: bool) {
 /// The first condition that applies, in the order of a search's refusals; 0 where none does.
 fn refusal(case: &Case, search: &Search, sampler: Sampler) -> usize {
     let (block_size, k) = (sampler.block_size, search.k);
-    if !valid(block_size) || sampler.words != case.words || sampler.taken > capacity_bytes(block_size, case.words) {
+    if !valid(block_size) || sampler.words != case.words || sampler.blocks > capacity(block_size, case.words) {
         return 4;
     }
-    if search.stretch.is_some_and(|(first, end)| first > end || end > sampler.blocks()) {
+    if sampler.lengths.iter().any(|bytes| *bytes >= block_size / 8) {
+        return 4;
+    }
+    if search.stretch.is_some_and(|(first, end)| first > end || end > sampler.blocks) {
         return 18;
     }
     if k == 0 || k > 20 {

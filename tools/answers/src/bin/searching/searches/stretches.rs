@@ -21,7 +21,7 @@ fn at_ends_of_words(draws: &mut Draws) -> Vec<Case> {
         let bytes = n * size + draws.below(size);
         let recording = recording(draws, kind, bytes);
         let words = block_size * (n + 1).div_ceil(64) + draws.below(block_size);
-        let pieces = pieces(draws, block_size, words, &recording);
+        let feeds = feeds(draws, block_size, words, &recording);
         let mut places = vec![0, 1, 63, 64, 65, 127, 128, n, n + 1];
         places.retain(|place| *place <= n + 1);
         places.dedup();
@@ -33,7 +33,7 @@ fn at_ends_of_words(draws: &mut Draws) -> Vec<Case> {
                 }
             }
         }
-        cases.push(Case { block_size, words, pieces, searches });
+        cases.push(Case { block_size, words, begin: Begin::Start, feeds, searches });
     }
     cases
 }
@@ -56,8 +56,8 @@ fn refused(draws: &mut Draws) -> Case {
             searches.push(in_stretch(first, end, Search { k, bins, order: bins, store, ..good.clone() }));
         }
         // After 4.
-        for (block_size, words, taken) in [(12, 17, 29), (8, 16, 29), (8, 17, 129), (0, 17, 29)] {
-            let sampler = Some(Sampler { block_size, words, taken, turned: false });
+        for (block_size, words, blocks, unfinished) in [(12, 17, 29, 0), (8, 16, 29, 0), (8, 17, 129, 0), (0, 17, 29, 0), (8, 17, 29, 1)] {
+            let sampler = Some(Sampler { block_size, words, blocks, turned: false, lengths: [0, 0, unfinished, 0] });
             searches.push(in_stretch(first, end, Search { sampler, ..good.clone() }));
         }
     }
@@ -65,21 +65,21 @@ fn refused(draws: &mut Draws) -> Case {
     for (k, bins, store) in [(0, 5, 16), (9, 600, 5000), (3, 8, 1), (3, 7, 1000), (3, 8, 1000)] {
         searches.push(in_stretch(3, 29, Search { k, bins, order: bins, store, ..good.clone() }));
     }
-    Case { block_size: 8, words: 17, pieces: vec![draws.bytes(21), draws.bytes(8)], searches }
+    recorded(8, 17, vec![draws.bytes(21), draws.bytes(8)], searches)
 }
 
-/// A sampler that says fewer or more bytes than were fed: n goes by what it says. 64 bytes are fed, 256 are capacity.
+/// A sampler that says fewer or more blocks than were completed: n goes by what it says. 32 blocks are fed, 128 are capacity.
 fn other_samplers(draws: &mut Draws) -> Case {
     let (block_size, words) = (16, 35);
     let mut searches = Vec::new();
-    for (taken, first, end) in [
-        (21, 0, 10), (21, 3, 10), (21, 0, 11), (0, 0, 0), (0, 0, 1), (1, 0, 1), (65, 30, 32), (65, 0, 33), (66, 0, 33), (66, 32, 33),
-        (255, 0, 127), (255, 0, 128), (256, 20, 128), (256, 63, 65), (256, 64, 128), (256, 128, 128), (256, 0, 129),
+    for (blocks, first, end) in [
+        (10, 0, 10), (10, 3, 10), (10, 0, 11), (0, 0, 0), (0, 0, 1), (32, 30, 32), (32, 0, 33), (33, 0, 33), (33, 32, 33),
+        (127, 0, 127), (127, 0, 128), (128, 20, 128), (128, 63, 65), (128, 64, 128), (128, 128, 128), (128, 0, 129),
     ] {
-        let sampler = Some(Sampler { block_size, words, taken, turned: false });
+        let sampler = Some(Sampler { block_size, words, blocks, turned: false, lengths: [1, 0, 1, 0] });
         searches.push(in_stretch(first, end, Search { sampler, ..search(block_size, 2, 1) }));
     }
-    Case { block_size, words, pieces: vec![recording(draws, 5, 64)], searches }
+    recorded(block_size, words, vec![recording(draws, 5, 64)], searches)
 }
 
 /// A recording longer than the marks of one chunk, which begins with the word of a stretch's first block; up to 4,096 blocks from there on there is room for
@@ -94,7 +94,7 @@ fn at_ends_of_chunks(draws: &mut Draws) -> Case {
         searches.extend([search(8, k, 1), in_stretch(0, 32_769, search(8, k, 1))]);
     }
     searches.extend(places.into_iter().map(|(first, end)| in_stretch(first, end, search(8, 5, 1))));
-    Case { block_size: 8, words: 8 * 516 + 3, pieces, searches }
+    recorded(8, 8 * 516 + 3, pieces, searches)
 }
 
 /// Blocks of as many bits as the small room for counts has, of more, and of all; the last bit is the biased one.
@@ -109,7 +109,7 @@ fn long_blocks(draws: &mut Draws) -> Vec<Case> {
         for k in 1..=widest {
             searches.extend([search(block_size, k, 1), in_stretch(1, 5, search(block_size, k, 1))]);
         }
-        cases.push(Case { block_size, words: block_size, pieces: vec![recording], searches });
+        cases.push(recorded(block_size, block_size, vec![recording], searches));
     }
     cases
 }
