@@ -11,22 +11,29 @@
      returns, nothing is allocated, nothing is shared between calls: calls may run at the same time where no slice that one of
      them writes overlaps a slice of the other. A thread with 160 KB of stack can make every call: this is measured, not proved
      (differential/README.md, "The stack"). A search with no store takes the most, 110 KB at width 20; with a store that
-     suffices it takes 45 KB, a sweep 61 KB, a ranking 11 KB, and no other call takes 1 KB.
+     suffices it takes 45 KB, a sweep 61 KB, a ranking 11 KB, a carry-over 3 KB, and no other call takes 1 KB.
    - Each call takes any numbers at all. What it cannot take it refuses: the result is the number of the first refusal that
      applies, in the order given at the call, and 0 where there is none (enum jimrawel_refusal). jimrawel_blocks,
      jimrawel_store_needed and jimrawel_longest_text alone refuse nothing and return a number of blocks, of entries and of bytes.
    - Where a call is refused, every lent entry is as it was lent, but for three things: a record that the call writes (a sampler by
-     jimrawel_start, a finding, a rank, an evaluation, both ends of a bracket, two lengths, a plan, a sweep, a text's length; not a
-     ranking) then has every number 0; after 13, after 14 but for that of jimrawel_bracket, and after 17 of jimrawel_write_finding, the first
-     2^width entries of the scratch are 0; and where jimrawel_read_finding has read a text and the check refuses what it says, the
-     order begins with the text's indices. Beside 25 and 27 nothing at all is written.
+     jimrawel_start or jimrawel_carry_over, a finding, a rank, an evaluation, both ends of a bracket, two lengths, a plan, a sweep, a
+     text's length; not a ranking) then has every number 0, and a sampler every unfinished byte too; after 13, after 14 but for that of
+     jimrawel_bracket, and after 17 of jimrawel_write_finding, the first 2^width entries of the scratch are 0; and where
+     jimrawel_read_finding has read a text and the check refuses what it says, the order begins with the text's indices. Beside 25 and
+     27 nothing at all is written.
    - Entries past those that a call writes are as lent.
 
    Records
 
-   - A sampler is 4 numbers: the block size B in bits, the number of lent words, T, the bytes taken so far, and the bit order.
+   - A sampler is 8 numbers: the block size B in bits, the number of lent words, n, the blocks completed so far (jimrawel_blocks), the
+     bit order, and for each of the boards 0 to 3 how many unfinished bytes it has, fewer than B / 8. In a slice of their own stand 2,048
+     bytes, the unfinished ones: those of board b from place 512 x b on, and 0 past them, which no call reads.
      Its words are lent anew with every call; no one else may change them, or the sampler, from start to the last search.
-     n = T / (B / 8), rounded down, is its number of whole blocks (jimrawel_blocks).
+   - Up to four boards record on one sampler, each in pieces of its own; a block is of one board. It enters the words when it is completed,
+     so that blocks are numbered in the order of completion over all boards. What a board has past its last whole block is its unfinished
+     bytes: they are in no search and take no capacity.
+   - A sampler of the earlier rule, of one board, is 4 numbers: B, the number of lent words, T, the bytes taken so far, and the bit order;
+     an unfinished block stands in its words too. jimrawel_carry_over alone reads one.
    - A finding is 25 numbers: the block size, the width k, the division, the bits of its score z as a double, 20 bit entries, of
      which the first k count, and the bit order; a search and a reading leave the other bit entries 0, and no call reads them. Beside it
      stands its bin order in a buffer of its own.
@@ -48,7 +55,8 @@
 extern "C" {
 #endif
 
-#define JIMRAWEL_SAMPLER 4     /* numbers of a sampler */
+#define JIMRAWEL_SAMPLER 8     /* numbers of a sampler */
+#define JIMRAWEL_EARLIER 4     /* numbers of a sampler of the earlier rule */
 #define JIMRAWEL_FINDING 25    /* numbers of a finding */
 #define JIMRAWEL_RANKING 2     /* numbers of a ranking */
 #define JIMRAWEL_EVALUATED 3   /* numbers of an evaluation */
@@ -56,6 +64,11 @@ extern "C" {
 #define JIMRAWEL_PLAN 15       /* numbers of a plan */
 #define JIMRAWEL_TESTED 29     /* numbers of a pair that a sweep has tested */
 #define JIMRAWEL_SWEPT 60      /* numbers of a sweep */
+
+/* Boards of a sampler, its unfinished bytes, and the places of each board among them. */
+#define JIMRAWEL_BOARDS 4
+#define JIMRAWEL_UNFINISHED 2048
+#define JIMRAWEL_BOARD_BYTES 512
 
 /* Places in a finding. */
 #define JIMRAWEL_BLOCK_SIZE 0
@@ -65,8 +78,9 @@ extern "C" {
 #define JIMRAWEL_BITS 4
 #define JIMRAWEL_LOW_FIRST 24
 
-/* The place of the bit order in a sampler. */
+/* Places in a sampler: the bit order, and where the boards' numbers begin. */
 #define JIMRAWEL_SAMPLER_LOW_FIRST 3
+#define JIMRAWEL_SAMPLER_LENGTHS 4
 
 /* Places in a pair that a sweep has tested, behind those of its finding. */
 #define JIMRAWEL_BLOCKS 25
@@ -85,8 +99,9 @@ enum jimrawel_refusal {
     JIMRAWEL_BAD_BLOCK_SIZE = 1,     /* B is no multiple of 8 from 8 to 4,096 */
     JIMRAWEL_BAD_WIDTH = 2,          /* k is 0 or above 20 */
     JIMRAWEL_WIDTH_ABOVE_BLOCK = 3,  /* k is above B */
-    JIMRAWEL_BAD_SAMPLER = 4,        /* its B is invalid, its number of words is not the lent one, or T is above capacity */
-    JIMRAWEL_FULL = 5,               /* the piece would go past capacity; for a sweep, the training half of a pair */
+    JIMRAWEL_BAD_SAMPLER = 4,        /* its B is invalid, its number of words is not the lent one, n is above capacity, or a board has B / 8
+                                        unfinished bytes or more; of the earlier rule, T is above capacity in bytes */
+    JIMRAWEL_FULL = 5,               /* the piece would complete more blocks than capacity leaves; for a sweep, the training half of a pair would */
     JIMRAWEL_SHORT_BUFFER = 7,       /* bins, order or scratch have fewer than 2^k entries; for a bracket, the scratch fewer than n + 1, which
                                         a sweep asks of its entries */
     JIMRAWEL_FEW_BLOCKS = 8,         /* fewer than two blocks */
@@ -101,7 +116,8 @@ enum jimrawel_refusal {
     JIMRAWEL_BAD_STRETCH = 18,       /* first is above end, or end above the sampler's n */
     JIMRAWEL_BAD_COUNTS = 19,        /* for a bracket, n is above 4,096 or c above n */
     JIMRAWEL_BAD_LEVEL = 20,         /* the level of a sweep is 0 or at least 2^40 */
-    JIMRAWEL_SHORT_RECORD = 25,      /* a slice has fewer numbers than the record that is read from it or written to it */
+    JIMRAWEL_BAD_BOARD = 21,         /* the board is above 3 */
+    JIMRAWEL_SHORT_RECORD = 25,      /* a slice has fewer numbers, or bytes, than the record that is read from it or written to it */
     JIMRAWEL_TOO_MANY_COUNTED = 26,  /* the counts of a ranking add up to 2^32 or more */
     JIMRAWEL_BAD_BIT_ORDER = 27      /* a sampler or a finding that is read has a bit order that is neither 0 nor 1 */
 };
@@ -117,27 +133,42 @@ enum jimrawel_verdict {
      low_first  true where the recorder packs the first bit of a byte at its low end, false where at its high end.
      words      lent; all 0 afterwards. S = words / block_size of them hold a row of 64 x S blocks for each bit of a block:
                 capacity is 64 x S blocks, and never more than 16,777,216.
-     sampler    at least 4 numbers; the fresh sampler is written.
+     sampler, unfinished  at least 8 numbers and 2,048 bytes; the fresh sampler is written.
    Refusals: 25, 1. */
 uint32_t jimrawel_start(
-    size_t block_size, bool low_first, uint64_t *words, size_t words_len, uint64_t *sampler, size_t sampler_len);
+    size_t block_size, bool low_first, uint64_t *words, size_t words_len, uint64_t *sampler, size_t sampler_len,
+    uint8_t *unfinished, size_t unfinished_len);
 
-/* Takes the next piece of the recording, of any length, also empty; a block may be cut anywhere.
-     sampler  as start or the last feed left it; the next one is written in its place. As lent where refused.
-     words    the same words, as start or the last feed left them.
+/* Takes the next piece of a board, of any length, also empty; a block may be cut anywhere, and other boards may be fed in between.
+     sampler, unfinished  as start, the carry-over or the last feed left them; the next sampler is written in their place. As lent where refused.
+     words    the same words, as that call left them.
+     board    0 to 3.
      piece    is read.
-   Refusals: 25, 27, 4, 5. After 5 a shorter piece may still be taken. */
-uint32_t jimrawel_feed(uint64_t *sampler, size_t sampler_len, uint64_t *words, size_t words_len, const uint8_t *piece, size_t piece_len);
+   Refusals: 25, 27, 4, 21, 5. After 5 a shorter piece may still be taken, of any board.
+   A recorder of one board passes 0, and its blocks are those of the earlier rule. What differs: T is gone, n and the number t of board 0's unfinished bytes
+   are there instead, T being n x (B / 8) + t; these bytes no longer stand in the words; and a piece may end up to B / 8 - 1 bytes past capacity, unfinished. */
+uint32_t jimrawel_feed(
+    uint64_t *sampler, size_t sampler_len, uint8_t *unfinished, size_t unfinished_len, uint64_t *words, size_t words_len,
+    size_t board, const uint8_t *piece, size_t piece_len);
 
-/* n: the whole blocks that a sampler has taken, an unfinished one not among them. 0 where the slice has fewer than 4 numbers, the bit order is
-   neither 0 nor 1, or B is below 8.
-     sampler  as start or the last feed left it; it is read. */
+/* Goes on from a sampler of the earlier rule, anywhere in its recording: T / (B / 8) blocks, rounded down, are completed, and its unfinished bytes
+   are board 0's. Once: the words no longer have these bytes afterwards.
+     earlier  at least 4 numbers; it is read.
+     words    its words, as its last feed left them; the unfinished bytes are cleared from them, and nothing else is changed.
+     sampler, unfinished  at least 8 numbers and 2,048 bytes; the sampler that goes on is written.
+   Refusals: 25, 27, 4, the last by the earlier rule. */
+uint32_t jimrawel_carry_over(
+    const uint64_t *earlier, size_t earlier_len, uint64_t *words, size_t words_len, uint64_t *sampler, size_t sampler_len,
+    uint8_t *unfinished, size_t unfinished_len);
+
+/* n: the blocks that a sampler has completed. 0 where the slice has fewer than 8 numbers, or the bit order is neither 0 nor 1.
+     sampler  as start, the carry-over or the last feed left it; it is read. */
 size_t jimrawel_blocks(const uint64_t *sampler, size_t sampler_len);
 
-/* The search: finds the best set of k bits over a stretch of the whole blocks taken. With a store that is long enough it goes by layers: it counts each set of
+/* The search: finds the best set of k bits over a stretch of the blocks completed. With a store that is long enough it goes by layers: it counts each set of
    up to k bits once and works out the bins of a set from the counts of its subsets. Else it counts every bin of every set. The finding, the counts and the
    order are the same with any store: search with a long one, then with none, to see that they are.
-     sampler, words  as the last feed left them; they are read.
+     sampler, words  as the last feed left them; they are read. The unfinished bytes are not lent.
      first, end  the stretch: blocks first to end - 1, numbered from 0; the others enter neither counts nor z. From 0 to what jimrawel_blocks
               returns it is all of them. Where first is end there is no block, and the answer is bits 0 to k - 1, division 1, z 0.
      store    any number of entries, also 0, the address then as of every empty slice. Long enough are jimrawel_store_needed(B, k), where that is not 0:

@@ -1,6 +1,6 @@
 /* A recording fed in two pieces, searched with a store and with none, its later blocks alone too, the finding evaluated on other bytes and on none, the
-   chance of as many positives bracketed, the finding written as text and read again; then a recording with the low bit first, and sweeps. Prints what it finds,
-   in how many blocks each bit is set, and the verdicts. */
+   chance of as many positives bracketed, the finding written as text and read again; then a recording with the low bit first, boards that take turns, a carry-over,
+   and sweeps. Prints what it finds, in how many blocks each bit is set, the boards' blocks, and the verdicts. */
 #include "../jimrawel.h"
 
 #include <inttypes.h>
@@ -110,11 +110,13 @@ static uint32_t exchange(const uint64_t *finding, const uint32_t *order) {
 }
 
 /* Starts a recording and feeds it four bytes in two pieces. */
-static void record(bool low_first, const uint8_t *bytes, uint64_t *words, uint64_t *sampler) {
-    uint32_t refusal = jimrawel_start(B, low_first, words, B, sampler, JIMRAWEL_SAMPLER);
+static void record(bool low_first, const uint8_t *bytes, uint64_t *words, uint64_t *sampler, uint8_t *unfinished) {
+    uint32_t refusal = jimrawel_start(B, low_first, words, B, sampler, JIMRAWEL_SAMPLER, unfinished, JIMRAWEL_UNFINISHED);
     if (refusal != JIMRAWEL_OK) exit(failed("start", refusal));
-    for (size_t at = 0; at < 4; at += 2)
-        if ((refusal = jimrawel_feed(sampler, JIMRAWEL_SAMPLER, words, B, bytes + at, 2)) != JIMRAWEL_OK) exit(failed("feed", refusal));
+    for (size_t at = 0; at < 4; at += 2) {
+        refusal = jimrawel_feed(sampler, JIMRAWEL_SAMPLER, unfinished, JIMRAWEL_UNFINISHED, words, B, 0, bytes + at, 2);
+        if (refusal != JIMRAWEL_OK) exit(failed("feed", refusal));
+    }
 }
 
 /* The first bit of these bytes, at their low end, is now and then 0, and the others always: high bit first that would be bit 7, and bits 0 and 1 the first that
@@ -122,9 +124,10 @@ static void record(bool low_first, const uint8_t *bytes, uint64_t *words, uint64
 static uint32_t low_first(void) {
     const uint8_t bytes[] = {0x01, 0x01, 0x01, 0x00};
     uint64_t words[B], sampler[JIMRAWEL_SAMPLER], evaluated[JIMRAWEL_EVALUATED];
+    uint8_t unfinished[JIMRAWEL_UNFINISHED];
     uint32_t bins[BINS];
     struct answer found;
-    record(true, bytes, words, sampler);
+    record(true, bytes, words, sampler, unfinished);
     printf("low bit first: ");
     uint32_t refusal = search(sampler, words, 0, jimrawel_blocks(sampler, JIMRAWEL_SAMPLER), &found);
     if (refusal == JIMRAWEL_OK)
@@ -134,8 +137,94 @@ static uint32_t low_first(void) {
     print_evaluated(evaluated);
     if ((refusal = exchange(found.finding, found.order)) != JIMRAWEL_OK) return refusal;
     sampler[JIMRAWEL_SAMPLER_LOW_FIRST] = 2;
-    printf("a bit order that is none: refusal %" PRIu32 "\n", jimrawel_feed(sampler, JIMRAWEL_SAMPLER, words, B, bytes, sizeof bytes));
+    refusal = jimrawel_feed(sampler, JIMRAWEL_SAMPLER, unfinished, JIMRAWEL_UNFINISHED, words, B, 0, bytes, sizeof bytes);
+    printf("a bit order that is none: refusal %" PRIu32 "\n", refusal);
     return JIMRAWEL_OK;
+}
+
+#define WIDE 16 /* bits of a block of two bytes, one of which can be unfinished; as many words hold 64 blocks */
+
+struct recording {
+    uint64_t words[WIDE], sampler[JIMRAWEL_SAMPLER];
+    uint8_t unfinished[JIMRAWEL_UNFINISHED];
+};
+
+/* The refusal, or n and each board's unfinished bytes. */
+static void print_boards(const struct recording *on, uint32_t refusal) {
+    if (refusal != JIMRAWEL_OK) {
+        printf("refusal %" PRIu32 "\n", refusal);
+        return;
+    }
+    printf("blocks %zu, unfinished", jimrawel_blocks(on->sampler, JIMRAWEL_SAMPLER));
+    for (size_t board = 0; board < JIMRAWEL_BOARDS; board++) {
+        printf(" [");
+        for (size_t i = 0; i < on->sampler[JIMRAWEL_SAMPLER_LENGTHS + board]; i++) printf("%02X", on->unfinished[JIMRAWEL_BOARD_BYTES * board + i]);
+        printf("]");
+    }
+    printf("\n");
+}
+
+static void feed_board(struct recording *on, size_t board, const uint8_t *piece, size_t length) {
+    uint32_t refusal =
+        jimrawel_feed(on->sampler, JIMRAWEL_SAMPLER, on->unfinished, JIMRAWEL_UNFINISHED, on->words, WIDE, board, piece, length);
+    printf("  board %zu, length %zu: ", board, length);
+    print_boards(on, refusal);
+}
+
+/* The bits of the first blocks: the store of a search of one block alone says which are set. */
+static void print_blocks(const struct recording *on, size_t blocks) {
+    uint64_t finding[JIMRAWEL_FINDING];
+    uint32_t store[WIDE], bins[2], order[2];
+    for (size_t e = 0; e < blocks; e++) {
+        uint32_t refusal = jimrawel_bottomup(
+            on->sampler, JIMRAWEL_SAMPLER, on->words, WIDE, e, e + 1, 1, store, WIDE, bins, 2, order, 2, finding, JIMRAWEL_FINDING);
+        if (refusal != JIMRAWEL_OK) exit(failed("search", refusal));
+        printf("  block %zu: ", e);
+        for (size_t bit = 0; bit < WIDE; bit++) printf("%" PRIu32, store[bit]);
+        printf("\n");
+    }
+}
+
+/* Boards take turns: blocks stand in the order of completion, and none has bytes of two boards. At capacity, which board 3 reaches, unfinished bytes stay and may
+   become more, and no board can complete a block. */
+static void boards(void) {
+    static const uint8_t zeros[2 * 61];
+    struct recording on;
+    uint32_t refusal = jimrawel_start(WIDE, false, on.words, WIDE, on.sampler, JIMRAWEL_SAMPLER, on.unfinished, JIMRAWEL_UNFINISHED);
+    if (refusal != JIMRAWEL_OK) exit(failed("start", refusal));
+    printf("boards that take turns\n");
+    feed_board(&on, 0, (const uint8_t[]){0x12}, 1);
+    feed_board(&on, 1, (const uint8_t[]){0x34, 0x56, 0x78}, 3);
+    feed_board(&on, 0, (const uint8_t[]){0x9A}, 1);
+    feed_board(&on, 2, (const uint8_t[]){0xBC}, 1);
+    feed_board(&on, 1, (const uint8_t[]){0xDE, 0xF0}, 2);
+    print_blocks(&on, 3);
+    feed_board(&on, 4, zeros, 1);
+    feed_board(&on, 3, zeros, sizeof zeros);
+    feed_board(&on, 1, zeros, 1);
+    feed_board(&on, 0, zeros, 1);
+    feed_board(&on, 4, zeros, 2);
+}
+
+static void carry_over(struct recording *on, size_t taken) {
+    const uint64_t earlier[JIMRAWEL_EARLIER] = {WIDE, WIDE, taken, 0};
+    uint32_t refusal = jimrawel_carry_over(
+        earlier, JIMRAWEL_EARLIER, on->words, WIDE, on->sampler, JIMRAWEL_SAMPLER, on->unfinished, JIMRAWEL_UNFINISHED);
+    printf("carried over, length %zu: ", taken);
+    print_boards(on, refusal);
+}
+
+/* Three bytes under the earlier rule: bit b of block e is bit e of word b, the unfinished block's too. Refused with more bytes than the words hold, the carry-over
+   leaves the words as they are; the next block is put where the unfinished one was. */
+static void carried(void) {
+    const uint8_t bytes[] = {0xA5, 0x0F, 0xC3};
+    struct recording on = {0};
+    for (size_t i = 0; i < 8 * sizeof bytes; i++) on.words[i % WIDE] |= (uint64_t)(bytes[i / 8] >> (7 - i % 8) & 1) << i / WIDE;
+    carry_over(&on, 2 * 64 + 1);
+    carry_over(&on, sizeof bytes);
+    feed_board(&on, 1, (const uint8_t[]){0x11, 0x22}, 2);
+    feed_board(&on, 0, (const uint8_t[]){0x3C}, 1);
+    print_blocks(&on, 3);
 }
 
 #define SWEPT_BYTES 512
@@ -199,10 +288,11 @@ int main(void) {
     const uint8_t training[] = {0x00, 0x00, 0xFF, 0xFF};
     const uint8_t testing[BLOCKS] = {0x00, 0x80, 0xFF, 0xFF};
     uint64_t words[B], sampler[JIMRAWEL_SAMPLER], evaluated[JIMRAWEL_EVALUATED];
+    uint8_t unfinished[JIMRAWEL_UNFINISHED];
     uint32_t bins[BINS], refusal;
     struct answer found, later;
 
-    record(false, training, words, sampler);
+    record(false, training, words, sampler, unfinished);
     size_t n = jimrawel_blocks(sampler, JIMRAWEL_SAMPLER);
     printf("entries of a store: %zu\n", jimrawel_store_needed(B, K));
     if ((refusal = search(sampler, words, 0, n, &found)) != JIMRAWEL_OK) return failed("search", refusal);
@@ -223,10 +313,12 @@ int main(void) {
     if ((refusal = exchange(found.finding, found.order)) != JIMRAWEL_OK) return failed("text", refusal);
 
     static const uint8_t long_piece[61];
-    refusal = jimrawel_feed(sampler, JIMRAWEL_SAMPLER, words, B, long_piece, sizeof long_piece);
+    refusal = jimrawel_feed(sampler, JIMRAWEL_SAMPLER, unfinished, JIMRAWEL_UNFINISHED, words, B, 0, long_piece, sizeof long_piece);
     printf("a piece past capacity: refusal %" PRIu32 "\n", refusal);
 
     if ((refusal = low_first()) != JIMRAWEL_OK) return failed("low bit first", refusal);
+    boards();
+    carried();
     sweeps();
     return 0;
 }

@@ -4,23 +4,39 @@
 use crate::raw;
 use std::ops::Range;
 
-pub fn start(block_size: usize, low_first: bool, words: &mut [u64], sampler: &mut [u64]) -> u32 {
+/// A sampler is 8 numbers and 2,048 bytes, its boards' unfinished ones.
+pub fn start(block_size: usize, low_first: bool, words: &mut [u64], sampler: &mut [u64], unfinished: &mut [u8]) -> u32 {
     unsafe {
         raw::jimrawel_start(
             block_size,
             low_first,
             words.as_mut_ptr(), words.len(),
             sampler.as_mut_ptr(), sampler.len(),
+            unfinished.as_mut_ptr(), unfinished.len(),
         )
     }
 }
 
-pub fn feed(sampler: &mut [u64], words: &mut [u64], piece: &[u8]) -> u32 {
+pub fn feed(sampler: &mut [u64], unfinished: &mut [u8], words: &mut [u64], board: usize, piece: &[u8]) -> u32 {
     unsafe {
         raw::jimrawel_feed(
             sampler.as_mut_ptr(), sampler.len(),
+            unfinished.as_mut_ptr(), unfinished.len(),
             words.as_mut_ptr(), words.len(),
+            board,
             piece.as_ptr(), piece.len(),
+        )
+    }
+}
+
+/// `earlier` is the 4 numbers of a sampler made under the earlier rule.
+pub fn carry_over(earlier: &[u64], words: &mut [u64], sampler: &mut [u64], unfinished: &mut [u8]) -> u32 {
+    unsafe {
+        raw::jimrawel_carry_over(
+            earlier.as_ptr(), earlier.len(),
+            words.as_mut_ptr(), words.len(),
+            sampler.as_mut_ptr(), sampler.len(),
+            unfinished.as_mut_ptr(), unfinished.len(),
         )
     }
 }

@@ -27,6 +27,15 @@
 //! let finding = low.search(2)?;
 //! assert_eq!((finding.bit_order(), finding.bits()), (BitOrder::LowFirst, &[1, 2][..]));
 //! assert_eq!(finding.evaluate(&[0x01, 0x04])?.counts, [1, 0, 1, 0]);
+//!
+//! // Up to four boards on one sampler: blocks stand in the order of completion, and none has bytes of two boards.
+//! let mut boards = Sampler::start(16, BitOrder::HighFirst, 64)?;
+//! boards.feed_board(0, &[0x00])?;
+//! boards.feed_board(3, &[0xFF, 0xFF, 0x5A])?;
+//! boards.feed_board(0, &[0x00])?;
+//! assert_eq!((boards.blocks(), boards.unfinished(0), boards.unfinished(3)), (2, &[][..], &[0x5A][..]));
+//! assert_eq!((boards.search_in(0..1, 1)?.counts(), boards.search_in(1..2, 1)?.counts()), (&[0, 1][..], &[1, 0][..]));
+//! assert_eq!(boards.feed_board(4, &[0x00]), Err(Refusal::Board));
 //! # Ok::<(), Refusal>(())
 //! ```
 
@@ -44,7 +53,7 @@ pub use bracket::Bracket;
 pub use calls::store_needed;
 pub use finding::{Evaluation, Finding};
 pub use refusal::Refusal;
-pub use sampler::Sampler;
+pub use sampler::{Earlier, Sampler};
 pub use sweep::{sweep, Sweep, Tested, Verdict};
 
 use refusal::accepted;

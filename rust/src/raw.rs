@@ -8,12 +8,22 @@ extern "C" {
         low_first: bool,
         words: *mut u64, words_len: usize,
         sampler: *mut u64, sampler_len: usize,
+        unfinished: *mut u8, unfinished_len: usize,
     ) -> u32;
 
     pub fn jimrawel_feed(
         sampler: *mut u64, sampler_len: usize,
+        unfinished: *mut u8, unfinished_len: usize,
         words: *mut u64, words_len: usize,
+        board: usize,
         piece: *const u8, piece_len: usize,
+    ) -> u32;
+
+    pub fn jimrawel_carry_over(
+        earlier: *const u64, earlier_len: usize,
+        words: *mut u64, words_len: usize,
+        sampler: *mut u64, sampler_len: usize,
+        unfinished: *mut u8, unfinished_len: usize,
     ) -> u32;
 
     pub fn jimrawel_blocks(sampler: *const u64, sampler_len: usize) -> usize;

@@ -8,9 +8,9 @@ pub enum Refusal {
     Width = 2,
     /// The width is above the block size.
     WidthAboveBlock = 3,
-    /// The sampler is none of the lent words.
+    /// The sampler is none of the lent words, or a board has a block's unfinished bytes or more.
     Sampler = 4,
-    /// The piece would go past capacity; of a sweep, the half of the recording that is searched.
+    /// The piece would complete more blocks than capacity leaves; of a sweep, the half of the recording that is searched.
     Full = 5,
     /// A buffer is too short, for the bins or for the n + 1 entries of a bracket.
     Buffer = 7,
@@ -38,6 +38,8 @@ pub enum Refusal {
     Counts = 19,
     /// The level of a sweep is 0 or at least 2^40.
     Level = 20,
+    /// There is no such board: it is above 3.
+    Board = 21,
     /// A slice is too short for its record.
     ShortRecord = 25,
     /// The counts of a ranking add up to 2^32 or more.
@@ -46,7 +48,7 @@ pub enum Refusal {
     BitOrder = 27,
 }
 
-const ALL: [Refusal; 21] = [
+const ALL: [Refusal; 22] = [
     Refusal::BlockSize,
     Refusal::Width,
     Refusal::WidthAboveBlock,
@@ -65,6 +67,7 @@ const ALL: [Refusal; 21] = [
     Refusal::Stretch,
     Refusal::Counts,
     Refusal::Level,
+    Refusal::Board,
     Refusal::ShortRecord,
     Refusal::TooManyCounted,
     Refusal::BitOrder,

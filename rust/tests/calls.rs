@@ -11,7 +11,7 @@ fn pieces_are_one_recording() {
         pieces.feed(&[]).unwrap();
         assert_eq!(pieces.feed(&[0; 257]), Err(Refusal::Full));
     }
-    assert_eq!((whole.taken(), whole.blocks()), (200, 100));
+    assert_eq!((whole.blocks(), whole.unfinished(0)), (100, &[][..]));
     let found = whole.search_with(0..100, 3, &mut []).unwrap();
     assert_eq!(found, pieces.search(3).unwrap());
     assert_eq!(found.counts(), &found.evaluate(&bytes).unwrap().counts[..]);
@@ -51,12 +51,12 @@ fn other_stretches() {
     let (words, mut bins, mut order, mut store, mut finding) = ([0; 16], [9; 4], [9; 4], [9; 16], [9; 25]);
     for (words_said, refusal) in [(16, Refusal::Stretch), (15, Refusal::Sampler)] {
         for entries in [16, 0] {
-            let sampler = [16, words_said, 21, 0];
+            let sampler = [16, words_said, 10, 0, 1, 0, 0, 0];
             let answer = calls::bottomup(&sampler, &words, 0..11, 2, &mut store[..entries], &mut bins, &mut order, &mut finding);
             assert_eq!((answer, bins, order, store, finding), (refusal.number(), [9; 4], [9; 4], [9; 16], [0; 25]));
         }
     }
-    assert_eq!((calls::blocks(&[16, 16, 21, 1]), calls::blocks(&[16, 16, 21]), calls::blocks(&[0, 16, 21, 0])), (10, 0, 0));
+    assert_eq!((calls::blocks(&[16, 16, 10, 1, 1, 0, 0, 0]), calls::blocks(&[16, 16, 10, 1, 1, 0, 0])), (10, 0));
 }
 
 #[test]
@@ -96,10 +96,10 @@ fn other_bit_orders() {
     for mark in [2, 3, 255, 256, 1 << 32, (1 << 32) + 1, u64::MAX] {
         // All the rest is refused too: the number of words, the stretch, the width, the buffers.
         for (words_said, stretch, k, room) in [(16, 0..10, 2, 4), (15, 0..11, 0, 0)] {
-            let lent = [16, words_said, 21, mark];
-            let (mut sampler, mut words) = (lent, [9; 16]);
-            assert_eq!(calls::feed(&mut sampler, &mut words, &[0xFF; 3]), Refusal::BitOrder.number());
-            assert_eq!((sampler, words, calls::blocks(&sampler)), (lent, [9; 16], 0));
+            let lent = [16, words_said, 10, mark, 1, 0, 0, 0];
+            let (mut sampler, mut unfinished, mut words) = (lent, [9; 2048], [9; 16]);
+            assert_eq!(calls::feed(&mut sampler, &mut unfinished, &mut words, 0, &[0xFF; 3]), Refusal::BitOrder.number());
+            assert_eq!((sampler, unfinished, words, calls::blocks(&sampler)), (lent, [9; 2048], [9; 16], 0));
             let (mut bins, mut order, mut store, mut finding) = ([9; 4], [9; 4], [9; 16], [9; 25]);
             let (bins, order) = (&mut bins[..room], &mut order[..room]);
             for entries in [16, 0] {
@@ -118,8 +118,11 @@ fn other_bit_orders() {
         }
     }
     // A record that is too short comes first.
-    assert_eq!(calls::feed(&mut [16, 16, 21], &mut [0; 16], &[]), Refusal::ShortRecord.number());
-    assert_eq!(calls::bottomup(&[16, 16, 0, 2], &[0; 16], 0..0, 1, &mut [], &mut [0; 2], &mut [0; 2], &mut [0; 24]), Refusal::ShortRecord.number());
+    for (numbers, bytes) in [(7, 2048), (8, 2047)] {
+        assert_eq!(calls::feed(&mut vec![2; numbers], &mut vec![0; bytes], &mut [0; 16], 0, &[]), Refusal::ShortRecord.number());
+    }
+    assert_eq!(calls::bottomup(&[2; 7], &[0; 16], 0..0, 1, &mut [], &mut [0; 2], &mut [0; 2], &mut [0; 25]), Refusal::ShortRecord.number());
+    assert_eq!(calls::bottomup(&[2; 8], &[0; 16], 0..0, 1, &mut [], &mut [0; 2], &mut [0; 2], &mut [0; 24]), Refusal::ShortRecord.number());
     assert_eq!(calls::validate(&[2; 24], &[], &mut []), Refusal::ShortRecord.number());
 }
 
@@ -160,7 +163,7 @@ fn stores() {
     store.fill(9);
     for entries in [349_632, 349_631, 0] {
         let (mut order, mut finding) = ([9; 16], [9; 25]);
-        let answer = calls::bottomup(&[128, 128, 0, 0], &[0; 128], 0..0, 4, &mut store[..entries], &mut [9; 15], &mut order, &mut finding);
+        let answer = calls::bottomup(&[128, 128, 0, 0, 0, 0, 0, 0], &[0; 128], 0..0, 4, &mut store[..entries], &mut [9; 15], &mut order, &mut finding);
         assert_eq!((answer, order, finding), (Refusal::Buffer.number(), [9; 16], [0; 25]));
         assert!(store.iter().all(|&entry| entry == 9));
     }
@@ -186,8 +189,13 @@ fn entries_of_stores() {
 fn refusals() {
     let sampler = Sampler::start(8, HighFirst, 1).unwrap();
     assert_eq!(Sampler::start(4104, HighFirst, 1).unwrap_err().number(), 1);
-    let mut started = [9; 4];
-    assert_eq!((calls::start(4104, true, &mut [], &mut started), started), (Refusal::BlockSize.number(), [0; 4]));
+    let (mut words, mut started, mut unfinished) = ([9; 16], [9; 8], [9; 2048]);
+    for (numbers, bytes) in [(7, 2048), (8, 2047)] {
+        assert_eq!(calls::start(16, true, &mut words, &mut started[..numbers], &mut unfinished[..bytes]), Refusal::ShortRecord.number());
+        assert_eq!((words, started, unfinished), ([9; 16], [9; 8], [9; 2048]));
+    }
+    assert_eq!(calls::start(4104, true, &mut words, &mut started, &mut unfinished), Refusal::BlockSize.number());
+    assert_eq!((words, started, unfinished), ([9; 16], [0; 8], [0; 2048]));
     for (k, refusal) in [(0, Refusal::Width), (21, Refusal::Width), (9, Refusal::WidthAboveBlock)] {
         assert_eq!(sampler.search(k), Err(refusal));
         assert_eq!(sampler.search_with(0..0, k, &mut []), Err(refusal));
