@@ -1,11 +1,11 @@
 //! Times of our calls and of the reference's, in one run, on drawn bytes.
 
-use crate::ours;
-use crate::recordings::{numbers, numbers_in, store_size};
+use crate::ours::{self, Sampler};
+use crate::recordings::{check_sampler, check_words, numbers, numbers_in, store_size};
 use answers::run::sound;
 use answers::{
     bottomup, brute_force, brute_force_threads, compute_index, configurations, evaluate_histogram, from_bins, reversed, to_json, transform_data, whole_blocks,
-    with_low_first, Draws, Finding, Histogram,
+    with_low_first, Draws, Feed, Finding, Histogram, Plain,
 };
 use jimrawel::calls;
 use std::{hint::black_box, time::Instant};
@@ -40,20 +40,19 @@ fn compare(name: &str, ours: &mut dyn FnMut(), reference: &mut dyn FnMut()) -> f
 fn searches(block_size: usize, k: usize, bytes: usize) -> f64 {
     let data = Draws::new(1).bytes(bytes);
     let blocks = bytes / (block_size / 8);
-    let mut words = vec![0; block_size * blocks.div_ceil(64)];
-    let mut sampler = [0; 4];
+    let mut sampler = Sampler::lent(block_size * blocks.div_ceil(64));
     let name = format!("B {block_size}, k {k}, {} MB", bytes / 1_000_000);
 
-    let (mut low_words, mut low_sampler) = (words.clone(), [0; 4]);
-    let feed = |low_first: bool, words: &mut [u64], sampler: &mut [u64]| {
-        assert_eq!(ours::start(block_size, low_first, words, sampler), 0);
-        assert_eq!(ours::feed(sampler, words, black_box(&data)), 0);
+    let mut low_first = sampler.clone();
+    let feed = |low_first: bool, sampler: &mut Sampler| {
+        assert_eq!(sampler.start(block_size, low_first), 0);
+        assert_eq!(sampler.feed(0, black_box(&data)), 0);
     };
-    compare(&format!("{name}, feeding"), &mut || feed(false, &mut words, &mut sampler), &mut || {
+    compare(&format!("{name}, feeding"), &mut || feed(false, &mut sampler), &mut || {
         black_box(transform_data(black_box(&data), block_size));
     });
-    let mut low = || feed(true, &mut low_words, &mut low_sampler);
-    let ratio = compare(&format!("{name}, feeding, low first beside high first"), &mut low, &mut || feed(false, &mut words, &mut sampler));
+    let mut low = || feed(true, &mut low_first);
+    let ratio = compare(&format!("{name}, feeding, low first beside high first"), &mut low, &mut || feed(false, &mut sampler));
 
     let rows = transform_data(&data, block_size);
     let mut store = vec![0; store_size(block_size, k).unwrap()];
@@ -61,17 +60,42 @@ fn searches(block_size: usize, k: usize, bytes: usize) -> f64 {
     let (mut found, mut expected) = (None, None);
     compare(
         &format!("{name}, layered"),
-        &mut || found = Some(ours::bottomup(&sampler, &words, 0..blocks, k, &mut store, &mut bins, &mut order)),
+        &mut || found = Some(sampler.bottomup(0..blocks, k, &mut store, &mut bins, &mut order)),
         &mut || expected = brute_force(&rows, block_size, k),
     );
     assert_eq!(found.take().unwrap().finding[3], expected.take().unwrap().z.to_bits());
     compare(
         &format!("{name}, direct"),
-        &mut || found = Some(ours::bottomup(&sampler, &words, 0..blocks, k, &mut [], &mut bins, &mut order)),
+        &mut || found = Some(sampler.bottomup(0..blocks, k, &mut [], &mut bins, &mut order)),
         &mut || expected = brute_force_threads(&rows, block_size, k, 1),
     );
     assert_eq!(found.unwrap().finding[3], expected.unwrap().z.to_bits());
     ratio
+}
+
+/// Block sizes, and the bytes of a piece: one, a block less one, and 64 KB.
+const PIECES: [(usize, usize); 6] = [(8, 1), (24, 2), (8, 65_536), (128, 1), (128, 15), (128, 65_536)];
+
+/// 1 MB in pieces, to one board and to four in turn, beside the reference's rows of the same bytes at once.
+fn pieces(block_size: usize, piece: usize) {
+    let data = Draws::new(1).bytes(1_000_000);
+    let words = block_size * (data.len() / (block_size / 8)).div_ceil(64);
+    for (boards, name) in [(1, "one board"), (4, "four boards in turn")] {
+        let mut sampler = Sampler::lent(words);
+        compare(
+            &format!("B {block_size}, 1 MB in pieces of {piece}, feeding {name}"),
+            &mut || {
+                assert_eq!(sampler.start(block_size, false), 0);
+                for (turn, piece) in black_box(&data).chunks(piece).enumerate() {
+                    assert_eq!(sampler.feed(turn % boards, piece), 0);
+                }
+            },
+            &mut || drop(black_box(transform_data(black_box(&data), block_size))),
+        );
+        let feeds: Vec<Feed> = data.chunks(piece).enumerate().map(|(turn, piece)| Feed { board: turn % boards, piece: piece.to_vec() }).collect();
+        let plain = Plain::start(block_size, words).feed_all(&feeds);
+        check_sampler("sampler", &sampler, &plain, false).and_then(|()| check_words(block_size, &sampler.words, &plain.held)).unwrap();
+    }
 }
 
 /// Answers the ratio of an evaluation with the low bit first to one with the high bit first, both ours.
@@ -212,14 +236,23 @@ fn sweeps() {
     }
 }
 
-/// All rows, or those of the sweeps.
-pub fn run(sweeps_alone: bool) {
+fn feeding() {
+    for (block_size, piece) in PIECES {
+        pieces(block_size, piece);
+    }
+}
+
+/// All rows, or those of the feeding in pieces or of the sweeps.
+pub fn run(rows: Option<&str>) {
     println!("| Case | ours, ms | reference, ms | ratio |");
     println!("|---|---|---|---|");
-    sweeps();
-    if sweeps_alone {
-        return;
+    match rows {
+        Some("feeding") => return feeding(),
+        Some("sweeps") => return sweeps(),
+        _ => (),
     }
+    sweeps();
+    feeding();
     for k in [4, 8, 12, 16, 18, 20] {
         ranking(k);
     }

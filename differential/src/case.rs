@@ -1,7 +1,7 @@
 //! What is asked of every drawn case.
 
 use crate::account::Account;
-use answers::run::Case;
+use answers::run::{Case, Recording};
 
 /// What differs, in words.
 pub type Checked = Result<(), String>;
@@ -16,14 +16,27 @@ pub trait Compared: Sized {
 
 pub fn kind(case: &Case) -> &'static str {
     match case {
-        Case::Recording(case) if case.low_first => "recordings, low first",
-        Case::Recording(_) => "recordings",
+        Case::Recording(case) => recorded(case),
         Case::Ranking(_) => "rankings",
         Case::Rank(_) => "ranks",
         Case::Judged(case) if case.low_first => "checks and evaluations, low first",
         Case::Judged(_) => "checks and evaluations",
         Case::Split(_) => "splits",
         Case::Plan(_) => "sweep plans",
+    }
+}
+
+/// By the bit order, and by whether it is carried over or has feeds of several boards.
+fn recorded(case: &Recording) -> &'static str {
+    let later = &case.feeds[case.carried.unwrap_or(0)..];
+    let boards = (0..4).filter(|board| later.iter().any(|feed| feed.board == *board)).count();
+    match (case.carried.is_some(), boards > 1, case.low_first) {
+        (false, false, false) => "recordings of one board",
+        (false, false, true) => "recordings of one board, low first",
+        (false, true, false) => "recordings of several boards",
+        (false, true, true) => "recordings of several boards, low first",
+        (true, _, false) => "recordings carried over",
+        (true, _, true) => "recordings carried over, low first",
     }
 }
 

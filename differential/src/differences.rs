@@ -2,25 +2,29 @@
 //! Beside them, where there is no difference: a finding's large numbers, and bit entries past its width.
 
 use crate::case::{same, Checked};
-use crate::ours::{self, Searched};
+use crate::ours::{self, Sampler, Searched};
 use crate::recordings::{numbers, numbers_in};
 use answers::{
-    arguments, bottomup, compute_index, configurations, evaluate_histogram, from_bins, from_json, reversed, to_json, transform_data, validate, whole_blocks,
-    with_low_first, Finding,
+    arguments, bottomup, compute_index, configurations, evaluate_histogram, from_bins, from_json, laid, reversed, to_json, transform_data, validate,
+    whole_blocks, with_low_first, Earlier, Finding,
 };
 use jimrawel::calls;
 use std::panic;
 
-const ROWS: [(&str, fn() -> Checked); 40] = [
+const ROWS: [(&str, fn() -> Checked); 44] = [
     ("pieces", pieces),
     ("row words", row_words),
-    ("an unfinished block", unfinished_block),
+    ("boards", boards),
+    ("boards that are none", other_boards),
+    ("unfinished bytes", unfinished_bytes),
+    ("a carry-over", carry_over),
     ("large block sizes", large_block_sizes),
     ("other block sizes", other_block_sizes),
     ("many blocks", many_blocks),
     ("widths", widths),
     ("stores", stores),
     ("buffers", buffers),
+    ("lengths of records", records),
     ("samplers", samplers),
     ("stretches", stretches),
     ("stretches that are none", other_stretches),
@@ -81,20 +85,19 @@ fn panics<T>(what: &str, call: impl FnOnce() -> T + panic::UnwindSafe) -> Checke
     is(what, panic::catch_unwind(call).is_err(), true)
 }
 
-/// A sampler of just enough words for the bytes, and the words.
-fn sampled(block_size: usize, pieces: &[&[u8]]) -> ([u64; 4], Vec<u64>) {
+/// A sampler with just enough words for the bytes, all fed to board 0.
+fn sampled(block_size: usize, pieces: &[&[u8]]) -> Sampler {
     sampled_in(false, block_size, pieces)
 }
 
 /// The same in a bit order.
-fn sampled_in(low_first: bool, block_size: usize, pieces: &[&[u8]]) -> ([u64; 4], Vec<u64>) {
+fn sampled_in(low_first: bool, block_size: usize, pieces: &[&[u8]]) -> Sampler {
     let bytes: usize = pieces.iter().map(|piece| piece.len()).sum();
-    let (mut sampler, mut words) = ([0; 4], vec![0; block_size * bytes.div_ceil(8 * block_size).max(1)]);
-    assert_eq!(ours::start(block_size, low_first, &mut words, &mut sampler), 0);
+    let mut sampler = Sampler::started(block_size, low_first, block_size * bytes.div_ceil(8 * block_size).max(1));
     for piece in pieces {
-        assert_eq!(ours::feed(&mut sampler, &mut words, piece), 0);
+        assert_eq!(sampler.feed(0, piece), 0);
     }
-    (sampler, words)
+    sampler
 }
 
 /// A finding of two bits of a block of 8, with another order, or another division.
@@ -108,26 +111,69 @@ fn check(finding: &Finding, scratch: &mut [u32]) -> u32 {
 }
 
 fn pieces() -> Checked {
-    let (sampler, words) = sampled(8, &[&[0, 0, 255], &[], &[255]]);
+    let sampler = sampled(8, &[&[0, 0, 255], &[], &[255]]);
     let found = bottomup(&[0, 0, 255, 255], 8, 2, 1)?;
-    same("finding", ours::bottomup(&sampler, &words, 0..4, 2, &mut [], &mut [0; 4], &mut [0; 4]).finding, numbers(&found))
+    same("finding", sampler.bottomup(0..4, 2, &mut [], &mut [0; 4], &mut [0; 4]).finding, numbers(&found))
 }
 
 fn row_words() -> Checked {
     let bytes = [0x80; 65];
-    is("ours", &sampled(8, &[&bytes]).1[..4], &[u64::MAX, 1, 0, 0])?;
+    is("ours", &sampled(8, &[&bytes]).words[..4], &[u64::MAX, 1, 0, 0])?;
     is("the reference's", transform_data(&bytes, 8).row(0), &[(1 << 65) - 1])
 }
 
-fn unfinished_block() -> Checked {
-    let bytes = [0xFF; 3];
-    let rows = transform_data(&bytes, 16);
-    is("ours", sampled(16, &[&bytes]).1[0], 3)?;
-    is("the reference's", (rows.num_of_blocks(), rows.row(0)), (1, &[1][..]))?;
-    let (sampler, words) = sampled(16, &[&bytes]);
+fn boards() -> Checked {
+    let mut sampler = Sampler::started(16, false, 16);
+    for (board, piece, blocks) in [(0, 0x00, 0), (1, 0xFF, 0), (1, 0xFF, 1), (0, 0x00, 2)] {
+        is("feed", (sampler.feed(board, &[piece]), sampler.blocks()), (0, blocks))?;
+    }
+    let completed = [0xFF, 0xFF, 0x00, 0x00];
+    is("the word of bit 0", (sampler.words[0], transform_data(&completed, 16).row(0)), (1, &[1][..]))?;
+    let ours = sampler.bottomup(0..2, 2, &mut [], &mut [0; 4], &mut [0; 4]).finding;
+    same("finding", ours, numbers(&bottomup(&completed, 16, 2, 1)?))?;
     let mut counts = [0; 2];
-    is("refusal", ours::bottomup(&sampler, &words, 0..1, 1, &mut [], &mut counts, &mut [0; 2]).refusal, 0)?;
-    is("counts", counts, [0, 1])
+    is("search of the first block", sampler.bottomup(0..1, 1, &mut [], &mut counts, &mut [0; 2]).refusal, 0)?;
+    is("its counts", counts, [0, 1])?;
+    is("the reference's row of the bytes as they came", transform_data(&[0x00, 0xFF, 0xFF, 0x00], 16).row(0), &[2])
+}
+
+fn other_boards() -> Checked {
+    let mut sampler = sampled(16, &[&[0xFF; 3]]);
+    let lent = sampler.clone();
+    for board in [4, 5, 1 << 32, usize::MAX] {
+        // Also a piece that no board could take.
+        for piece in [&[][..], &[0xFF], &[0xFF; 200]] {
+            is("feed", (sampler.feed(board, piece), sampler == lent), (21, true))?;
+        }
+    }
+    sampler.numbers[1] = 17;
+    is("feed with other words", sampler.feed(4, &[0xFF]), 4)
+}
+
+fn unfinished_bytes() -> Checked {
+    let bytes = [0xFF; 129];
+    let mut sampler = Sampler::started(16, false, 16);
+    is("129 bytes", (sampler.feed(0, &bytes), sampler.blocks()), (0, 64))?;
+    let lent = sampler.clone();
+    is("a byte more", (sampler.feed(0, &[0xFF]), sampler == lent), (5, true))?;
+    is("a byte on another board", (sampler.feed(3, &[0xFF]), sampler.blocks()), (0, 64))?;
+    let rows = transform_data(&bytes, 16);
+    is("the reference's", (rows.num_of_blocks(), rows.word(0, 0)), (64, u64::MAX))?;
+    is("ours", sampler.words, vec![u64::MAX; 16])
+}
+
+fn carry_over() -> Checked {
+    let bytes = [0x80, 0x01, 0xF0, 0x0F];
+    let lent = laid(16, 16, false, &Earlier::of(16, bytes[..3].to_vec()));
+    is("the earlier words of bits 0 and 15", (lent[0], lent[15]), (3, 1))?;
+    let mut sampler = Sampler { words: lent.clone(), ..Sampler::lent(0) };
+    is("past capacity", sampler.carry_over(&[16, 16, 129, 0]), 4)?;
+    is("beside 4", (sampler.numbers, sampler.unfinished == [0; 2048], &sampler.words), ([0; 8], true, &lent))?;
+    is("carry-over", (sampler.carry_over(&[16, 16, 3, 0]), sampler.numbers), (0, [16, 16, 1, 0, 1, 0, 0, 0]))?;
+    is("the unfinished byte, and the word of bit 0", (sampler.unfinished[0], sampler.words[0]), (0xF0, 1))?;
+    is("feed", (sampler.feed(0, &bytes[3..]), sampler.blocks()), (0, 2))?;
+    let rows = transform_data(&bytes, 16);
+    is("the rows", sampler.words, (0..16).map(|bit| rows.word(bit, 0)).collect())
 }
 
 fn large_block_sizes() -> Checked {
@@ -139,7 +185,7 @@ fn large_block_sizes() -> Checked {
     is("the reference's parts", whole_blocks(&raw, 4104, true).map(|parts| parts.1.len()), Ok(513))?;
     is("the reference's plan", configurations(4104, 1), vec![(8, 8), (4104, 2)])?;
     is("the reference's rank", compute_index(&[4103], 4104), 4103)?;
-    is("start", ours::start(4104, false, &mut [0; 5000], &mut [0; 4]), 1)?;
+    is("start", Sampler::lent(5000).start(4104, false), 1)?;
     is("check", ours::validate(&numbers(&found), &[0, 1], &mut [0; 2]), 1)?;
     is("evaluation", ours::evaluate(&numbers(&found), &[0, 1], &raw, &mut [0; 2]), (1, [0; 3]))?;
     is("split", ours::whole_blocks(&raw, 4104, true), (1, [0; 2]))?;
@@ -155,8 +201,8 @@ fn other_block_sizes() -> Checked {
     is("the reference's plan", configurations(0, 1000), configurations(8, 1000))?;
     for block_size in [0, 4, 12] {
         is("the reference's arguments", arguments(&["-b", &block_size.to_string()]).is_err(), true)?;
-        let mut sampler = [5; 4];
-        is("start", (ours::start(block_size, true, &mut [0; 64], &mut sampler), sampler), (1, [0; 4]))?;
+        let mut sampler = Sampler::lent(64);
+        is("start", (sampler.start(block_size, true), sampler.numbers, sampler.unfinished == [0; 2048]), (1, [0; 8], true))?;
         is("split", ours::whole_blocks(&raw, block_size, true).0, 1)?;
         is("plan", ours::configurations(block_size, 1000).0, 1)?;
     }
@@ -165,10 +211,9 @@ fn other_block_sizes() -> Checked {
 
 fn many_blocks() -> Checked {
     let bytes = vec![0x80; (1 << 24) + 1];
-    let (mut sampler, mut words) = ([0; 4], vec![0; 8 * ((1 << 18) + 1)]);
-    is("start", ours::start(8, false, &mut words, &mut sampler), 0)?;
-    is("feed", ours::feed(&mut sampler, &mut words, &bytes), 5)?;
-    is("feed of a byte less", ours::feed(&mut sampler, &mut words, &bytes[1..]), 0)?;
+    let mut sampler = Sampler::started(8, false, 8 * ((1 << 18) + 1));
+    is("feed", sampler.feed(0, &bytes), 5)?;
+    is("feed of a byte less", sampler.feed(0, &bytes[1..]), 0)?;
     is("the reference's blocks", transform_data(&bytes, 8).num_of_blocks(), (1 << 24) + 1)?;
     let finding = finding(&[0, 1, 2, 3], 1);
     is("evaluation", ours::evaluate(&numbers(&finding), &[0, 1, 2, 3], &bytes, &mut [0; 4]), (12, [0; 3]))?;
@@ -176,8 +221,8 @@ fn many_blocks() -> Checked {
 }
 
 fn widths() -> Checked {
-    let (sampler, words) = sampled(8, &[&[0, 255]]);
-    let refusal = |k: usize| ours::bottomup(&sampler, &words, 0..2, k, &mut [], &mut [0; 512], &mut [0; 512]).refusal;
+    let sampler = sampled(8, &[&[0, 255]]);
+    let refusal = |k: usize| sampler.bottomup(0..2, k, &mut [], &mut [0; 512], &mut [0; 512]).refusal;
     is("widths 0, 9, 21", [0, 9, 21].map(refusal), [2, 3, 2])?;
     is("the reference's bits at width 0", bottomup(&[0, 255], 8, 0, 1)?.bits, vec![])?;
     for k in ["0", "9", "21"] {
@@ -191,12 +236,12 @@ fn widths() -> Checked {
 }
 
 fn stores() -> Checked {
-    let (sampler, words) = sampled(8, &[&[0, 255]]);
+    let sampler = sampled(8, &[&[0, 255]]);
     let found = Searched { refusal: 0, finding: numbers(&bottomup(&[0, 255], 8, 8, 0)?) };
     // One block of the two has every bit.
     for (entries, left) in [(253, vec![5; 253]), (254, vec![1; 254]), (255, [vec![1; 254], vec![5]].concat())] {
         let mut store = vec![5; entries];
-        same("finding", &ours::bottomup(&sampler, &words, 0..2, 8, &mut store, &mut [0; 256], &mut [0; 256]), &found)?;
+        same("finding", &sampler.bottomup(0..2, 8, &mut store, &mut [0; 256], &mut [0; 256]), &found)?;
         is("store", store, left)?;
     }
     // C(128, 6) is above 2^32. The reference would need more memory than there is.
@@ -204,24 +249,48 @@ fn stores() -> Checked {
 }
 
 fn buffers() -> Checked {
-    let (sampler, words) = sampled(8, &[&[0, 255]]);
+    let sampler = sampled(8, &[&[0, 255]]);
     let mut bins = [5; 3];
-    is("search", ours::bottomup(&sampler, &words, 0..2, 2, &mut [], &mut bins, &mut [0; 4]).refusal, 7)?;
+    is("search", sampler.bottomup(0..2, 2, &mut [], &mut bins, &mut [0; 4]).refusal, 7)?;
     is("bins", bins, [5; 3])?;
-    is("check", check(&finding(&[0, 1, 2, 3], 1), &mut [0; 3]), 7)?;
-    is("a finding of 24 numbers", ours::validate(&numbers(&finding(&[0, 1, 2, 3], 1))[..24], &[0, 1, 2, 3], &mut [0; 4]), 25)
+    is("check", check(&finding(&[0, 1, 2, 3], 1), &mut [0; 3]), 7)
+}
+
+fn records() -> Checked {
+    is("a finding of 24 numbers", ours::validate(&numbers(&finding(&[0, 1, 2, 3], 1))[..24], &[0, 1, 2, 3], &mut [0; 4]), 25)?;
+    let (mut sampler, lent) = (sampled(8, &[&[0, 255]]), sampled(8, &[&[0, 255]]));
+    let Sampler { numbers, unfinished, words } = &mut sampler;
+    for (length, bytes) in [(7, 2048), (8, 2047)] {
+        let (numbers, unfinished) = (&mut numbers[..length], &mut unfinished[..bytes]);
+        is("start", calls::start(8, false, words, numbers, unfinished), 25)?;
+        is("feed", calls::feed(numbers, unfinished, words, 0, &[255]), 25)?;
+        is("carry-over", calls::carry_over(&[8, 8, 0, 0], words, numbers, unfinished), 25)?;
+    }
+    is("an earlier sampler of 3 numbers", calls::carry_over(&[8, 8, 0], words, numbers, unfinished), 25)?;
+    is("search", calls::bottomup(&numbers[..7], words, 0..2, 1, &mut [], &mut [0; 2], &mut [0; 2], &mut [0; 25]), 25)?;
+    is("blocks", calls::blocks(&numbers[..7]), 0)?;
+    is("all as lent", sampler == lent, true)
 }
 
 fn samplers() -> Checked {
-    let (sampler, words) = sampled(8, &[&[0, 255]]);
-    is("other words", ours::bottomup(&sampler, &words[1..], 0..2, 1, &mut [], &mut [0; 2], &mut [0; 2]).refusal, 4)
+    let sampler = sampled(16, &[&[0, 255]]);
+    // The number of words, B, n above capacity, and a block of unfinished bytes.
+    for (at, number) in [(1, 17), (0, 12), (0, 4104), (2, 65), (4, 2), (7, 2)] {
+        let mut other = sampler.clone();
+        other.numbers[at] = number;
+        let lent = other.clone();
+        is("search", other.bottomup(0..1, 1, &mut [], &mut [0; 2], &mut [0; 2]).refusal, 4)?;
+        is("feed", (other.feed(0, &[255]), other == lent), (4, true))?;
+    }
+    let other = Sampler { words: vec![0; 15], ..sampler };
+    is("15 words of 16", other.bottomup(0..1, 1, &mut [], &mut [0; 2], &mut [0; 2]).refusal, 4)
 }
 
 fn stretches() -> Checked {
     let bytes = [0xAA, 0xAA, 0xAA, 0, 0, 255, 255];
-    let (sampler, words) = sampled(8, &[&bytes]);
+    let sampler = sampled(8, &[&bytes]);
     let mut bins = [9; 4];
-    let ours = ours::bottomup(&sampler, &words, 3..7, 2, &mut [], &mut bins, &mut [0; 4]);
+    let ours = sampler.bottomup(3..7, 2, &mut [], &mut bins, &mut [0; 4]);
     same("finding", ours.finding, numbers(&bottomup(&bytes[3..], 8, 2, 1)?))?;
     is("counts", bins, [2, 0, 0, 2])?;
     is("the chosen bits", &ours.finding[4..6], &[0, 1])?;
@@ -229,11 +298,11 @@ fn stretches() -> Checked {
 }
 
 fn other_stretches() -> Checked {
-    let (sampler, words) = sampled(8, &[&[0xAA, 0xAA, 0xAA, 0, 0, 255, 255]]);
+    let sampler = sampled(8, &[&[0xAA, 0xAA, 0xAA, 0, 0, 255, 255]]);
     for stretch in [4..3, 0..8, 8..8] {
         for entries in [8, 0] {
             let (mut bins, mut order, mut store) = ([5; 4], [5; 4], vec![5; entries]);
-            let answer = ours::bottomup(&sampler, &words, stretch.clone(), 2, &mut store, &mut bins, &mut order);
+            let answer = sampler.bottomup(stretch.clone(), 2, &mut store, &mut bins, &mut order);
             is("search", (answer.refusal, answer.finding, bins, order), (18, [0; 25], [5; 4], [5; 4]))?;
             is("store", store, vec![5; entries])?;
         }
@@ -243,8 +312,8 @@ fn other_stretches() -> Checked {
 
 fn bit_orders() -> Checked {
     let bytes = [0x01, 0x01, 0x01, 0x00];
-    let (sampler, words) = sampled_in(true, 8, &[&bytes]);
-    let ours = ours::bottomup(&sampler, &words, 0..4, 2, &mut [], &mut [0; 4], &mut [0; 4]).finding;
+    let sampler = sampled_in(true, 8, &[&bytes]);
+    let ours = sampler.bottomup(0..4, 2, &mut [], &mut [0; 4], &mut [0; 4]).finding;
     is("the chosen bits", &ours[4..6], &[1, 2])?;
     same("finding", ours, numbers_in(&bottomup(&reversed(&bytes), 8, 2, 1)?, true))?;
     is("the reversed bytes", reversed(&bytes), vec![0x80, 0x80, 0x80, 0x00])?;
@@ -252,14 +321,16 @@ fn bit_orders() -> Checked {
 }
 
 fn other_bit_orders() -> Checked {
-    let (mut sampler, mut words) = sampled(8, &[&[0, 255]]);
-    sampler[3] = 2;
-    let (lent, lent_words) = (sampler, words.clone());
-    is("feed", (ours::feed(&mut sampler, &mut words, &[255]), sampler, words == lent_words), (27, lent, true))?;
-    is("blocks", ours::blocks(&sampler), 0)?;
+    let mut sampler = sampled(8, &[&[0, 255]]);
+    let taken = sampler.clone();
+    is("carry-over", (sampler.carry_over(&[8, 8, 2, 2]), sampler == taken), (27, true))?;
+    sampler.numbers[3] = 2;
+    let lent = sampler.clone();
+    is("feed", (sampler.feed(0, &[255]), sampler == lent), (27, true))?;
+    is("blocks", sampler.blocks(), 0)?;
     let (mut bins, mut order, mut store) = ([5; 4], [5; 4], [5; 8]);
     for entries in [8, 0] {
-        let answer = ours::bottomup(&sampler, &words, 0..2, 2, &mut store[..entries], &mut bins, &mut order);
+        let answer = sampler.bottomup(0..2, 2, &mut store[..entries], &mut bins, &mut order);
         is("search", (answer.refusal, answer.finding), (27, [ours::LENT; 25]))?;
     }
     is("buffers and store", (bins, order, store), ([5; 4], [5; 4], [5; 8]))?;
@@ -274,9 +345,9 @@ fn other_bit_orders() -> Checked {
 
 fn threads() -> Checked {
     let bytes: Vec<u8> = (0..999).map(|i| (i * i % 251) as u8).collect();
-    let (sampler, words) = sampled(24, &[&bytes]);
+    let sampler = sampled(24, &[&bytes]);
     for entries in [300, 0] {
-        let ours = ours::bottomup(&sampler, &words, 0..333, 3, &mut vec![0; entries], &mut [0; 8], &mut [0; 8]).finding;
+        let ours = sampler.bottomup(0..333, 3, &mut vec![0; entries], &mut [0; 8], &mut [0; 8]).finding;
         for threads in 0..4 {
             same("finding", ours, numbers(&bottomup(&bytes, 24, 3, threads)?))?;
         }

@@ -1,13 +1,15 @@
 //! Our calls against the reference's, on drawn cases: `differential [SEED [CASES]]`. Or on recordings that take too long to be drawn: `differential widths`,
-//! `differential capacity`, `differential wide WIDTH [reference|layered]`. Or recordings searched in many stretches: `differential stretches [SEED [CASES]]`. Or
-//! findings as text: `differential exchange [SEED [CASES]]`. Or whole sweeps: `differential sweeps [SEED [CASES]]`. Or ranks of all subsets in turn:
-//! `differential ranks`. Or what is known to differ: `differential differences`. Or their times: `differential bench [sweeps]`. Or beside those of an earlier
-//! commit: `differential before`. Or the stack that our calls take: `differential stack`.
+//! `differential capacity`, `differential wide WIDTH [reference|layered]`. Or recordings searched in many stretches: `differential stretches [SEED [CASES]]`.
+//! Or the same bytes of four boards in two orders: `differential boards [SEED [CASES]]`. Or findings as text: `differential exchange [SEED [CASES]]`. Or whole
+//! sweeps: `differential sweeps [SEED [CASES]]`. Or ranks of all subsets in turn: `differential ranks`. Or what is known to differ: `differential differences`.
+//! Or their times: `differential bench [feeding|sweeps]`. Or beside those of an earlier commit: `differential before CHECKOUT [feeding]`. Or the stack that
+//! our calls take: `differential stack`.
 
 mod account;
 #[cfg(feature = "before")]
 mod before;
 mod bench;
+mod boards;
 mod capacity;
 mod case;
 mod differences;
@@ -33,8 +35,9 @@ fn main() {
     let first = args.first().map(String::as_str);
     match first {
         #[cfg(feature = "before")]
-        Some("before") => return before::run(),
-        Some("bench") => return bench::run(args.get(1).is_some_and(|rows| rows == "sweeps")),
+        Some("before") => return before::run(args.get(2).map(String::as_str)),
+        Some("bench") => return bench::run(args.get(1).map(String::as_str)),
+        Some("boards") => return boards::run(seed(args.get(1)), cases(args.get(2), 20_000)),
         Some("capacity") => return capacity::run(),
         Some("differences") => return differences::run(),
         Some("exchange") => return exchange::run(seed(args.get(1)), cases(args.get(2), 100_000)),

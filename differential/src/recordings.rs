@@ -1,11 +1,12 @@
-//! Recordings fed in pieces and searched, with a store and with none.
+//! Recordings of four boards, fed in pieces, from a start or a carry-over on, and searched, with a store and with none.
 
 use crate::account::Account;
 use crate::case::{fewer, same, Checked, Compared};
-use crate::ours::{self, Searched};
+use crate::ours::{self, sampler_of, Sampler, Searched};
 use answers::run::Recording;
 use answers::{
-    bottomup, capacity_bytes, choose, evaluate_histogram, high_first, multi_eval, reversed, stored_place, stored_sets, transform_data, valid, Draws, Finding, Rows,
+    bottomup, capacity, capacity_bytes, choose, evaluate_histogram, high_first, laid, multi_eval, reversed, stored_place, stored_sets, transform_data, valid,
+    Draws, Earlier, Finding, Plain, Rows,
 };
 use std::ops::Range;
 
@@ -38,19 +39,20 @@ impl Compared for Recording {
 
     fn smaller(&self) -> Vec<Recording> {
         let mut cases = smaller_stretches(self);
-        for at in 0..self.pieces.len() {
-            let mut case = self.clone();
-            case.pieces.remove(at);
-            cases.push(case);
-            if at > 0 {
+        if self.carried.is_some() {
+            cases.push(Recording { carried: None, ..self.clone() });
+        }
+        for at in 0..self.feeds.len() {
+            cases.push(without(self, at));
+            cases.extend(merged(self, at));
+            for piece in fewer(&self.feeds[at].piece, true) {
                 let mut case = self.clone();
-                let piece = case.pieces.remove(at);
-                case.pieces[at - 1].extend(piece);
+                case.feeds[at].piece = piece;
                 cases.push(case);
             }
-            for piece in fewer(&self.pieces[at], true) {
+            if self.feeds[at].board != 0 {
                 let mut case = self.clone();
-                case.pieces[at] = piece;
+                case.feeds[at].board = 0;
                 cases.push(case);
             }
         }
@@ -66,8 +68,29 @@ impl Compared for Recording {
         if self.mark.is_some() {
             cases.push(Recording { mark: None, ..self.clone() });
         }
+        if self.stale.is_some() {
+            cases.push(Recording { stale: None, ..self.clone() });
+        }
         cases
     }
+}
+
+/// The recording without one feed.
+fn without(case: &Recording, at: usize) -> Recording {
+    let mut case = case.clone();
+    case.feeds.remove(at);
+    case.carried = case.carried.map(|feeds| if at < feeds { feeds - 1 } else { feeds });
+    case
+}
+
+/// The recording with one feed behind the one before it, where both are the same board's and on the same side of a carry-over.
+fn merged(case: &Recording, at: usize) -> Option<Recording> {
+    if at == 0 || case.feeds[at - 1].board != case.feeds[at].board || case.carried == Some(at) {
+        return None;
+    }
+    let mut merged = without(case, at);
+    merged.feeds[at - 1].piece.extend(&case.feeds[at].piece);
+    Some(merged)
 }
 
 /// The recording with stretches of fewer blocks, or of as many nearer to 0.
@@ -92,97 +115,142 @@ fn keep_within(case: &mut Recording) {
     case.stretch = case.stretch.start.min(end)..end;
 }
 
-/// A sampler with its words.
-struct Sampled {
-    sampler: [u64; 4],
-    words: Vec<u64>,
-}
-
 /// Feeds and searches a recording on both sides; where the reference's layered search works more than this, ours with a store is left out. It knows the high
 /// bit first alone: where the low bit comes first it is given the bytes with their bits reversed, and so are our own calls, with the high bit first, a second
-/// time.
+/// time. It knows one board: it is given the blocks in the order in which they were completed.
 pub fn compare(case: &Recording, work: usize, searches: &mut Account) -> Checked {
     if !valid(case.block_size) {
         return refused_start(case);
     }
-    let (mut fed, held) = feed(case, &case.pieces, case.low_first)?;
-    let held = high_first(&held, case.low_first);
+    let (mut fed, plain) = feed(case)?;
+    let held = high_first(&plain.held, case.low_first);
     let mut other = None;
     if case.low_first {
-        let pieces: Vec<Vec<u8>> = case.pieces.iter().map(|piece| reversed(piece)).collect();
-        let (high, held_there) = feed(case, &pieces, false)?;
-        same("bytes held, reversed", held_there == *held, true)?;
+        let (high, there) = feed(&turned(case))?;
+        same("blocks held, reversed", there.held == *held, true)?;
         same("words, low first, and high first of the reversed bytes", high.words == fed.words, true)?;
+        same("unfinished bytes, reversed", high.unfinished[..] == reversed(&fed.unfinished), true)?;
         other = Some(high);
     }
     spoil(case, &mut fed)?;
     if let Some(other) = &mut other {
         spoil(case, other)?;
     }
-    check_words(case, &fed.words, &held)?;
-    let size = case.block_size / 8;
-    let blocks = if case.mark.is_some() { 0 } else { fed.sampler[2] as usize / size };
-    same("the sampler's blocks", ours::blocks(&fed.sampler), blocks)?;
+    check_words(case.block_size, &fed.words, &held)?;
+    let blocks = if case.mark.is_some() { 0 } else { fed.numbers[2] as usize };
+    same("the sampler's blocks", fed.blocks(), blocks)?;
     // The reference searches a recording of the stretch's blocks alone; where the stretch is refused it searches nothing.
-    let blocks = if case.within() { &held[case.stretch.start * size..case.stretch.end * size] } else { &[] };
+    let within = case.stretch.start <= case.stretch.end && case.stretch.end <= plain.blocks();
+    let size = case.block_size / 8;
+    let blocks = if within { Some(&held[case.stretch.start * size..case.stretch.end * size]) } else { None };
     check_searches(case, &fed, other.as_ref(), blocks, work, searches)
 }
 
 fn refused_start(case: &Recording) -> Checked {
-    let (mut words, mut sampler) = (vec![u64::MAX; case.words], [5; 4]);
-    same("start's refusal", ours::start(case.block_size, case.low_first, &mut words, &mut sampler), 1)?;
-    same("sampler beside a refusal", sampler, [0; 4])?;
-    same("words as lent", words, vec![u64::MAX; case.words])
+    let mut sampler = Sampler::lent(case.words);
+    same("start's refusal", sampler.start(case.block_size, case.low_first), 1)?;
+    same("sampler beside a refusal", (sampler.numbers, sampler.unfinished), ([0; 8], [0; 2048]))?;
+    same("words as lent", sampler.words, vec![u64::MAX; case.words])
 }
 
-/// A start and the feeds of these pieces, each refusal and sampler as it has to be; and the bytes held.
-fn feed(case: &Recording, pieces: &[Vec<u8>], low_first: bool) -> Result<(Sampled, Vec<u8>), String> {
-    let (mut words, mut sampler) = (vec![u64::MAX; case.words], [5; 4]);
-    same("start's refusal", ours::start(case.block_size, low_first, &mut words, &mut sampler), 0)?;
-    same("sampler after the start", sampler, [case.block_size as u64, case.words as u64, 0, low_first as u64])?;
-    let mut held = Vec::new();
-    for piece in pieces {
-        let fits = held.len() + piece.len() <= capacity_bytes(case.block_size, case.words);
-        same("feed's refusal", ours::feed(&mut sampler, &mut words, piece), if fits { 0 } else { 5 })?;
-        if fits {
-            held.extend(piece);
+/// The same with the high bit first and its bytes reversed.
+fn turned(case: &Recording) -> Recording {
+    let mut case = Recording { low_first: false, ..case.clone() };
+    for feed in &mut case.feeds {
+        feed.piece = reversed(&feed.piece);
+    }
+    case
+}
+
+/// The beginning of a recording and all its feeds, each refusal and sampler as the plain recording has it.
+fn feed(case: &Recording) -> Result<(Sampler, Plain), String> {
+    let (mut fed, mut plain) = begin(case)?;
+    for feed in &case.feeds[case.carried.unwrap_or(0)..] {
+        same("feed's refusal", fed.feed_one(feed), plain.feed(feed) as u32)?;
+        check_sampler("sampler", &fed, &plain, case.low_first)?;
+    }
+    Ok((fed, plain))
+}
+
+/// A start; or the words and the sampler that the first feeds leave under the earlier rule, and a carry-over.
+pub fn begin(case: &Recording) -> Result<(Sampler, Plain), String> {
+    let (mut fed, plain) = (Sampler::lent(case.words), case.begun());
+    match case.carried {
+        None => same("start's refusal", fed.start(case.block_size, case.low_first), 0)?,
+        Some(feeds) => {
+            let bytes = case.earlier(feeds);
+            let earlier = [case.block_size as u64, case.words as u64, bytes.len() as u64, case.low_first as u64];
+            fed.words = laid(case.block_size, case.words, case.low_first, &Earlier::of(case.words, bytes));
+            refused_carry_overs(case, &fed, earlier)?;
+            same("carry-over's refusal", fed.carry_over(&earlier), 0)?;
         }
-        same("sampler", sampler, [case.block_size as u64, case.words as u64, held.len() as u64, low_first as u64])?;
     }
-    Ok((Sampled { sampler, words }, held))
+    check_sampler("sampler at first", &fed, &plain, case.low_first)?;
+    Ok((fed, plain))
 }
 
-/// A sampler that says more than capacity, or has no bit order: a feed is refused. That it leaves the words as they were shows where these are compared.
-fn spoil(case: &Recording, fed: &mut Sampled) -> Checked {
-    let Sampled { sampler, words } = fed;
-    if case.stale {
-        sampler[2] = capacity_bytes(case.block_size, case.words) as u64 + 1;
-        let lent = *sampler;
-        same("feed with a sampler past capacity", ours::feed(sampler, words, &[0xFF]), 4)?;
-        same("sampler past capacity", *sampler, lent)?;
-    }
+/// In the recordings whose sampler is spoilt later, the earlier sampler is, too: one that says more bytes than capacity, or has no bit order.
+fn refused_carry_overs(case: &Recording, lent: &Sampler, earlier: [u64; 4]) -> Checked {
+    let mut fed = lent.clone();
     if let Some(mark) = case.mark {
-        sampler[3] = mark;
-        let lent = *sampler;
-        same("feed with a sampler without a bit order", ours::feed(sampler, words, &[0xFF]), 27)?;
-        same("sampler without a bit order", *sampler, lent)?;
+        let spoilt = [earlier[0], earlier[1], earlier[2], mark];
+        same("carry-over without a bit order", fed.carry_over(&spoilt), 27)?;
+        same("all as lent beside 27", fed == *lent, true)?;
+    }
+    if case.stale.is_some() {
+        let spoilt = [earlier[0], earlier[1], capacity_bytes(case.block_size, case.words) as u64 + 1, earlier[3]];
+        same("carry-over past capacity", fed.carry_over(&spoilt), 4)?;
+        same("sampler beside 4", (fed.numbers, fed.unfinished), ([0; 8], [0; 2048]))?;
+        same("words as lent beside 4", fed.words == lent.words, true)?;
     }
     Ok(())
 }
 
-/// All words: the reference's rows, to which an unfinished block adds its bits, and 0 everywhere else.
-fn check_words(case: &Recording, words: &[u64], held: &[u8]) -> Checked {
-    let size = case.block_size / 8;
-    let mut filled = held.to_vec();
-    filled.resize(held.len().div_ceil(size) * size, 0);
-    let rows = transform_data(&filled, case.block_size);
-    let (used, stride) = (rows.num_of_blocks().div_ceil(64), case.words / case.block_size);
-    for bit in 0..case.block_size {
+/// All numbers and all unfinished bytes.
+pub fn check_sampler(what: &str, fed: &Sampler, plain: &Plain, low_first: bool) -> Checked {
+    let (numbers, unfinished) = sampler_of(plain, low_first);
+    same(what, fed.numbers, numbers)?;
+    let differs = (0..2048).find(|&at| fed.unfinished[at] != unfinished[at]);
+    same(&format!("{what}: a place of the unfinished bytes that differs"), differs, None)
+}
+
+/// A sampler that says a block more than capacity or a block of unfinished bytes, or has no bit order: a feed is refused, to any board. That it leaves the
+/// words as they were shows where these are compared.
+fn spoil(case: &Recording, fed: &mut Sampler) -> Checked {
+    if let Some(stale) = case.stale {
+        if stale < 4 {
+            fed.numbers[4 + stale] = case.block_size as u64 / 8;
+        } else {
+            fed.numbers[2] = capacity(case.block_size, case.words) as u64 + 1;
+        }
+        refused_feeds("a stale sampler", fed, 4)?;
+    }
+    if let Some(mark) = case.mark {
+        fed.numbers[3] = mark;
+        refused_feeds("a sampler without a bit order", fed, 27)?;
+    }
+    Ok(())
+}
+
+fn refused_feeds(what: &str, fed: &mut Sampler, refusal: u32) -> Checked {
+    let lent = (fed.numbers, fed.unfinished);
+    for board in [0, 3, 4] {
+        same(&format!("feed with {what}"), fed.feed(board, &[0xFF]), refusal)?;
+        same(&format!("{what} after a feed"), (fed.numbers, fed.unfinished) == lent, true)?;
+    }
+    Ok(())
+}
+
+/// All words: the reference's rows of the blocks held, and 0 everywhere else, so that no unfinished byte stands there.
+pub fn check_words(block_size: usize, words: &[u64], held: &[u8]) -> Checked {
+    let rows = transform_data(held, block_size);
+    let (used, stride) = (rows.num_of_blocks().div_ceil(64), words.len() / block_size);
+    for bit in 0..block_size {
         for i in 0..stride {
             same("a row's word", words[bit * stride + i], if i < used { rows.word(bit, i) } else { 0 })?;
         }
     }
-    same("the words past the rows", words[case.block_size * stride..].iter().all(|&word| word == 0), true)
+    same("the words past the rows", words[block_size * stride..].iter().all(|&word| word == 0), true)
 }
 
 /// What a search answers, and the buffers after it.
@@ -194,10 +262,10 @@ struct Answer {
 }
 
 impl Answer {
-    fn by(case: &Recording, fed: &Sampled, store: &mut [u32]) -> Answer {
+    fn by(case: &Recording, fed: &Sampler, store: &mut [u32]) -> Answer {
         let m = 1_isize << case.k.min(20);
         let (mut bins, mut order) = (vec![LENT; (m + case.bins) as usize], vec![LENT; (m + case.order) as usize]);
-        let searched = ours::bottomup(&fed.sampler, &fed.words, case.stretch.clone(), case.k, store, &mut bins, &mut order);
+        let searched = fed.bottomup(case.stretch.clone(), case.k, store, &mut bins, &mut order);
         Answer { searched, bins, order }
     }
 
@@ -212,7 +280,7 @@ impl Answer {
 
 /// What a search with this store answers. `other` is the same recording with the high bit first and its bytes reversed, where the low bit comes first: its
 /// search has to answer and to leave the same but for the mark.
-fn search(case: &Recording, fed: &Sampled, other: Option<&Sampled>, store: &mut [u32]) -> Result<Answer, String> {
+fn search(case: &Recording, fed: &Sampler, other: Option<&Sampler>, store: &mut [u32]) -> Result<Answer, String> {
     let mut there = store.to_vec();
     let answer = Answer::by(case, fed, store);
     if let Some(other) = other {
@@ -222,11 +290,15 @@ fn search(case: &Recording, fed: &Sampled, other: Option<&Sampled>, store: &mut 
     Ok(answer)
 }
 
-/// With no store, against the reference's direct search; then with one, against its layered search, whether the store suffices or is too short.
-fn check_searches(case: &Recording, fed: &Sampled, other: Option<&Sampled>, blocks: &[u8], work: usize, searches: &mut Account) -> Checked {
+/// With no store, against the reference's direct search; then with one, against its layered search, whether the store suffices or is too short. `blocks` are
+/// those of the stretch, where the recording has it.
+fn check_searches(
+    case: &Recording, fed: &Sampler, other: Option<&Sampler>, blocks: Option<&[u8]>, work: usize, searches: &mut Account,
+) -> Checked {
     let size = store_size(case.block_size, case.k);
     same("the entries that a store needs", ours::store_needed(case.block_size, case.k), size.unwrap_or(0))?;
-    let expected = refusal(case);
+    let expected = refusal(case, blocks.is_some());
+    let blocks = blocks.unwrap_or(&[]);
     let direct = search(case, fed, other, &mut [])?;
     check_answer(case, "no store", 1, expected, blocks, &direct)?;
     searches.add(entry(None, expected), true);
@@ -254,7 +326,7 @@ fn check_searches(case: &Recording, fed: &Sampled, other: Option<&Sampled>, bloc
 
 /// Draws that go by the case alone, so that it differs again where it has differed.
 fn of_case(case: &Recording) -> Draws {
-    let numbers = [case.block_size, case.k, case.words, case.taken(), case.stretch.start, case.stretch.end];
+    let numbers = [case.block_size, case.k, case.words, case.bytes(), case.stretch.start, case.stretch.end];
     Draws::new(numbers.into_iter().fold(0, |seed, number| Draws::new(seed ^ number as u64).next()))
 }
 
@@ -304,13 +376,13 @@ fn entry(suffices: Option<bool>, refusal: u32) -> &'static str {
     }
 }
 
-/// The first refusal that applies to a search; the store has none.
-fn refusal(case: &Recording) -> u32 {
+/// The first refusal that applies to a search, of a stretch that the recording has or has not; the store has none.
+fn refusal(case: &Recording, within: bool) -> u32 {
     if case.mark.is_some() {
         27
-    } else if case.stale {
+    } else if case.stale.is_some() {
         4
-    } else if !case.within() {
+    } else if !within {
         18
     } else if case.k == 0 || case.k > 20 {
         2

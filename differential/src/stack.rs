@@ -1,6 +1,7 @@
 //! The stack that each of our calls takes at its widest, measured: a call runs on a thread whose stack is painted before, and what it took reaches from
 //! the thread's own frame down to the last word that is no longer paint. No reference is needed.
 
+use crate::ours::Sampler;
 use crate::recordings::numbers;
 use answers::run::sound;
 use answers::{configurations, to_json, with_low_first, Draws};
@@ -110,30 +111,32 @@ pub fn run() {
     exit(if table.most > 1024 * PROMISED * 3 / 4 { 1 } else { 0 });
 }
 
-/// A sampler of drawn bytes and its words.
-fn fed(block_size: usize, blocks: usize) -> (Vec<u64>, Vec<u64>) {
-    let (mut sampler, mut words) = (vec![0; 4], vec![0; block_size * blocks.div_ceil(64)]);
-    assert_eq!(calls::start(block_size, false, &mut words, &mut sampler), 0);
-    assert_eq!(calls::feed(&mut sampler, &mut words, &Draws::new(3).bytes(blocks * block_size / 8)), 0);
-    (sampler, words)
+/// A sampler that has taken drawn bytes, all of board 0.
+fn fed(block_size: usize, blocks: usize) -> Sampler {
+    let mut sampler = Sampler::started(block_size, false, block_size * blocks.div_ceil(64));
+    assert_eq!(sampler.feed(0, &Draws::new(3).bytes(blocks * block_size / 8)), 0);
+    sampler
 }
 
 fn feeding(table: &mut Table) {
     for block_size in [8, 4096] {
-        let (mut sampler, mut words) = (vec![0; 4], vec![1; 1 << 20]);
-        table.row("jimrawel_start", &format!("B {block_size}"), move || {
-            assert_eq!(calls::start(black_box(block_size), black_box(true), &mut words, &mut sampler), 0);
-        });
-        let (sampler, _) = fed(block_size, 65);
-        table.row("jimrawel_blocks", &format!("B {block_size}"), move || assert_eq!(calls::blocks(black_box(&sampler)), 65));
+        let mut sampler = Sampler::lent(1 << 20);
+        table.row("jimrawel_start", &format!("B {block_size}"), move || assert_eq!(sampler.start(black_box(block_size), black_box(true)), 0));
+        let sampler = fed(block_size, 65);
+        table.row("jimrawel_blocks", &format!("B {block_size}"), move || assert_eq!(black_box(&sampler).blocks(), 65));
         for (low_first, name) in BIT_ORDERS {
-            let (mut sampler, mut words) = (vec![0; 4], vec![1; 1 << 20]);
+            let mut sampler = Sampler::started(block_size, low_first, 1 << 20);
             let pieces = [1, 0, 777, 100_000].map(|bytes| Draws::new(3).bytes(bytes));
-            assert_eq!(calls::start(block_size, low_first, &mut words, &mut sampler), 0);
             table.row("jimrawel_feed", &format!("B {block_size}{name}"), move || {
-                for piece in &pieces {
-                    assert_eq!(calls::feed(&mut sampler, &mut words, black_box(piece)), 0);
+                for (piece, board) in pieces.iter().flat_map(|piece| (0..4).map(move |board| (piece, board))) {
+                    assert_eq!(sampler.feed(board, black_box(piece)), 0);
                 }
+            });
+            // As many unfinished bytes as there can be.
+            let taken = block_size as u64 / 8 * 66 - 1;
+            let mut sampler = Sampler::lent(2 * block_size);
+            table.row("jimrawel_carry_over", &format!("B {block_size}{name}"), move || {
+                assert_eq!(sampler.carry_over(black_box(&[block_size as u64, 2 * block_size as u64, taken, low_first as u64])), 0);
             });
         }
     }
@@ -141,11 +144,11 @@ fn feeding(table: &mut Table) {
 
 /// With a store that suffices, or with none.
 fn search(table: &mut Table, stored: bool, block_size: usize, k: usize, blocks: usize) {
-    let (sampler, words) = fed(block_size, blocks);
+    let Sampler { numbers, words, .. } = fed(block_size, blocks);
     let (entries, with) = if stored { (calls::store_needed(block_size, k), "a store") } else { (0, "no store") };
     let (mut store, mut bins, mut order, mut finding) = (vec![0; entries], vec![0; 1 << k], vec![0; 1 << k], [0; 25]);
     table.row("jimrawel_bottomup", &format!("B {block_size}, k {k}, {blocks} blocks, {with}"), move || {
-        assert_eq!(calls::bottomup(&sampler, &words, 0..blocks, k, &mut store, &mut bins, &mut order, &mut finding), 0);
+        assert_eq!(calls::bottomup(&numbers, &words, 0..blocks, k, &mut store, &mut bins, &mut order, &mut finding), 0);
     });
 }
 

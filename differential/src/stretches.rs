@@ -1,8 +1,8 @@
-//! Recordings full of ties, about the ends of words and of chunks of marks long, each searched in several stretches at these places.
+//! Recordings full of ties, of one board or several, about the ends of words and of chunks of marks long, each searched in several stretches at these places.
 
 use crate::account::Run;
 use crate::compare_one;
-use answers::run::{bit_orders, start_of, Case, Recording};
+use answers::run::{bit_orders, boards, start_of, Case, Recording};
 use answers::Draws;
 
 /// Drawn stretches of a recording; beside them it is searched whole.
@@ -14,7 +14,7 @@ pub fn run(seed: u64, recordings: u64) {
     for number in 0..recordings {
         let start = start_of(seed, number);
         let (draws, orders) = (&mut Draws::new(start), &mut bit_orders(start));
-        let recording = Recording::tied(draws);
+        let recording = Recording::tied(draws).on_boards(&mut boards(start));
         let parts: Vec<Recording> = (0..STRETCHES).map(|_| recording.in_part(draws)).collect();
         for searched in [vec![recording], parts].concat() {
             let searched = searched.in_bit_order(orders);

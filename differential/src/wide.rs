@@ -2,7 +2,7 @@
 //! bins are empty and many sets of bits tie. The reference's answer is kept below `target`, so that its hours are spent once.
 
 use crate::case::{same, Checked};
-use crate::ours;
+use crate::ours::Sampler;
 use crate::recordings::{numbers, store_size, LENT};
 use answers::{bottomup, choose, evaluate_histogram, recording, Draws};
 use std::{fs, path::PathBuf, process::exit, time::Instant};
@@ -56,20 +56,19 @@ fn compare(ours: &Answer, reference: &Answer) -> Checked {
     same("order", ours.order == reference.order, true)
 }
 
-/// With a store of so many entries, by which it is layered or direct; fed in three pieces with an empty and a refused one between.
+/// With a store of so many entries, by which it is layered or direct; fed to one board in three pieces, with an empty and a refused one between and an
+/// unfinished one of another board.
 fn ours(k: usize, way: &str, entries: usize) -> Answer {
     let held = held();
-    let mut words = vec![u64::MAX; BLOCK_SIZE];
-    let mut sampler = [5; 4];
-    assert_eq!(ours::start(BLOCK_SIZE, false, &mut words, &mut sampler), 0);
-    let long = vec![0xFF; 64 * BLOCK_SIZE / 8];
-    for (piece, refusal) in [(&held[..50], 0), (&[], 0), (&long, 5), (&held[50..61], 0), (&held[61..], 0)] {
-        assert_eq!(ours::feed(&mut sampler, &mut words, piece), refusal);
+    let mut sampler = Sampler::started(BLOCK_SIZE, false, BLOCK_SIZE);
+    let long = vec![0xFF; 65 * BLOCK_SIZE / 8];
+    for (board, piece, refusal) in [(2, &held[..50], 0), (2, &[], 0), (1, &long, 5), (1, &held[..2], 0), (2, &held[50..61], 0), (2, &held[61..], 0)] {
+        assert_eq!(sampler.feed(board, piece), refusal);
     }
     let m = 1 << k;
     let (mut counts, mut order) = (vec![LENT; m + 1], vec![LENT; m + 1]);
     let start = Instant::now();
-    let searched = ours::bottomup(&sampler, &words, 0..BLOCKS, k, &mut vec![LENT; entries], &mut counts, &mut order);
+    let searched = sampler.bottomup(0..BLOCKS, k, &mut vec![LENT; entries], &mut counts, &mut order);
     println!("wide: width {k}: ours, {way}, took {:.0} s", start.elapsed().as_secs_f64());
     assert_eq!((searched.refusal, searched.finding[24], counts.pop(), order.pop()), (0, 0, Some(LENT), Some(LENT)));
     Answer { finding: searched.finding[..24].to_vec(), counts, order }

@@ -4,7 +4,7 @@
 use crate::account::Run;
 use crate::recordings::compare;
 use answers::run::Recording;
-use answers::{cut, recording, Draws};
+use answers::{alone, cut, recording, Draws};
 
 /// Block sizes and their greatest widths.
 const SIZES: [(usize, usize); 12] =
@@ -25,11 +25,16 @@ pub fn run() {
     run.close("widths");
 }
 
-/// 70 blocks and a part of one, of two values, a short period or few values, so that scores tie; the bit order goes from width to width.
+/// 70 blocks or a few less and a part of one, of two values, a short period or few values, so that scores tie; the bit order goes from width to width, and
+/// every other two widths have a board for each piece.
 fn drawn(block_size: usize, k: usize) -> Recording {
     let draws = &mut Draws::new((block_size * 32 + k) as u64);
     let held = recording(draws, [5, 0, 3][k % 3], 70 * block_size / 8 + block_size / 16);
-    let (words, pieces) = (2 * block_size + 3, cut(draws, &held, 4));
+    let (words, mut feeds) = (2 * block_size + 3, alone(cut(draws, &held, 4)));
+    if k % 4 >= 2 {
+        feeds.iter_mut().enumerate().for_each(|(board, feed)| feed.board = board);
+    }
     let low_first = (block_size / 8 + k) % 2 == 0;
-    Recording { block_size, words, pieces, stretch: 0..70, k, bins: 0, order: 1, store: (k % 3) as isize, stale: false, low_first, mark: None }
+    let case = Recording { k, order: 1, store: (k % 3) as isize, low_first, ..Recording::of(block_size, words, feeds, 0) };
+    Recording { stretch: 0..case.blocks(), ..case }
 }
