@@ -11,7 +11,7 @@
      returns, nothing is allocated, nothing is shared between calls: calls may run at the same time where no slice that one of
      them writes overlaps a slice of the other. A thread with 160 KB of stack can make every call: this is measured, not proved
      (differential/README.md, "The stack"). A search with no store takes the most, 110 KB at width 20; with a store that
-     suffices it takes 45 KB, a sweep 68 KB, a ranking 11 KB, a carry-over 3 KB, and no other call takes 1 KB.
+     suffices it takes 45 KB, a sweep 65 KB, a ranking 11 KB, a carry-over 3 KB, and no other call takes 1 KB.
    - Each call takes any numbers at all. What it cannot take it refuses: the result is the number of the first refusal that
      applies, in the order given at the call, and 0 where there is none (enum jimrawel_refusal). jimrawel_blocks,
      jimrawel_store_needed and jimrawel_longest_text alone refuse nothing and return a number of blocks, of entries and of bytes.
