@@ -9,7 +9,7 @@ use sampling::feeding::feed;
 use sampling::sampler::{Head, Sampler, start};
 
 // The refusal of the start or the carry-over, the sampler last returned, and the place reached in the text.
-#[derive(Drop)]
+#[derive(Clone, Copy)]
 pub struct Recorded {
     pub refusal: u32,
     pub sampler: Sampler,
@@ -17,7 +17,7 @@ pub struct Recorded {
 }
 
 // The sampler last returned, and the place reached in the text.
-#[derive(Drop)]
+#[derive(Clone, Copy)]
 struct State {
     sampler: Sampler,
     at: usize,

@@ -8,7 +8,7 @@ use crate::entries::entries_after;
 use counting::block::bin_count;
 use subsets::bits::valid_width;
 
-#[derive(Drop)]
+#[derive(Clone, Copy)]
 pub struct Bracketed {
     pub refusal: u32,
     pub low: u64,

@@ -6,7 +6,7 @@ ghost use Rattle.counting.specs.Stretch.{Within};
 use crate::stretch::Stretch;
 
 // Some words of each row: of the lanes from word `start` on those from `skip` to before `lanes`.
-#[derive(Drop)]
+#[derive(Clone, Copy)]
 pub struct Chunk {
     pub stride: usize,
     pub start: usize,

@@ -4,7 +4,7 @@ ghost use Rattle.counting.specs.Stretch.{Within, span};
 
 // What a search reads of the words: `stride` words to a row, a row for each of the block_size bits, and in the rows the blocks from
 // `first` to before `end`.
-#[derive(Drop)]
+#[derive(Clone, Copy)]
 pub struct Stretch {
     pub block_size: usize,
     pub stride: usize,

@@ -7,7 +7,7 @@ ghost use Rattle.counting.specs.Sample.{sum_to};
 ghost use Rattle.counting.specs.Tally.{lane_of, word_at, word_with, ones_in};
 
 // How many lanes are set where a row's are not, and where they are.
-#[derive(Drop)]
+#[derive(Clone, Copy)]
 pub struct Both {
     pub without: u32,
     pub with: u32,

@@ -8,7 +8,7 @@ use crate::cursor::{skip_space, token};
 use crate::words::{known_word, skip_word};
 
 // Whether numbers were read, how many, and the place behind them.
-#[derive(Drop)]
+#[derive(Clone, Copy)]
 pub struct Counted {
     pub ok: bool,
     pub count: usize,
@@ -16,7 +16,7 @@ pub struct Counted {
 }
 
 // Whether an array was read, from which place, how many numbers it has, and the place behind it.
-#[derive(Drop)]
+#[derive(Clone, Copy)]
 pub struct ArrayAt {
     pub ok: bool,
     pub from: usize,

@@ -5,7 +5,7 @@ ghost use Rattle.exchange.specs.Reader.{skip, read_exactly, read_token};
 ghost use Rattle.exchange.specs.Cursor.{At, PlaceIs};
 
 // Whether something was read, and the place behind it.
-#[derive(Drop)]
+#[derive(Clone, Copy)]
 pub struct Place {
     pub ok: bool,
     pub at: usize,

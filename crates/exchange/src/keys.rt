@@ -6,7 +6,7 @@ ghost use Rattle.exchange.specs.Cursor.{KeyIs};
 use crate::cursor::token;
 
 // bits, sorted_indices, best_division, block_size, low_first, z_score.
-#[derive(Drop)]
+#[derive(Clone, Copy)]
 pub enum Name {
     Bits,
     SortedIndices,
@@ -17,7 +17,7 @@ pub enum Name {
 }
 
 // Whether a key was read, which, and the place behind it.
-#[derive(Drop)]
+#[derive(Clone, Copy)]
 pub struct KeyAt {
     pub ok: bool,
     pub name: Name,

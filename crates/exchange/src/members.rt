@@ -13,7 +13,7 @@ use crate::truth::{TruthAt, no_truth, read_truth};
 use crate::words::{WordAt, no_word, read_word};
 
 // What the members so far have said.
-#[derive(Drop)]
+#[derive(Clone, Copy)]
 pub struct Found {
     pub bits: ArrayAt,
     pub indices: ArrayAt,
@@ -24,7 +24,7 @@ pub struct Found {
 }
 
 // Whether members were read, what all have said, and the place behind them.
-#[derive(Drop)]
+#[derive(Clone, Copy)]
 pub struct MembersAt {
     pub ok: bool,
     pub found: Found,

@@ -14,7 +14,7 @@ use judging::check::validate;
 use searching::finding::Finding;
 
 // A refusal, 0 where there is none, and the finding that was read.
-#[derive(Drop)]
+#[derive(Clone, Copy)]
 pub struct Reading {
     pub refusal: u32,
     pub finding: Finding,

@@ -7,7 +7,7 @@ use crate::cursor::{skip_space, token};
 use crate::members::{Found, nothing_found, read_members};
 
 // Whether the text is one, and what it says.
-#[derive(Drop)]
+#[derive(Clone, Copy)]
 pub struct TextRead {
     pub ok: bool,
     pub found: Found,

@@ -7,7 +7,7 @@ ghost use Rattle.exchange.specs.Cursor.{TruthIs, truth_held};
 use crate::cursor::token;
 
 // Whether true or false was read, which, and the place behind it.
-#[derive(Drop)]
+#[derive(Clone, Copy)]
 pub struct TruthAt {
     pub ok: bool,
     pub value: bool,

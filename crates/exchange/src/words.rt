@@ -8,7 +8,7 @@ ghost use Rattle.exchange.specs.Cursor.{At, PlaceIs, WordIs, rest_of, DigitsAt, 
 use crate::cursor::{Place, nowhere, skip_space};
 
 // Whether a whole number was read, the number, and the place behind it.
-#[derive(Drop)]
+#[derive(Clone, Copy)]
 pub struct WordAt {
     pub ok: bool,
     pub value: u32,

@@ -12,7 +12,7 @@ use searching::finding::Finding;
 use subsets::bits::valid_width;
 
 // A refusal, 0 where there is none, and the length of the text that was written.
-#[derive(Drop)]
+#[derive(Clone, Copy)]
 pub struct Written {
     pub refusal: u32,
     pub length: usize,

@@ -10,7 +10,7 @@ use exchange::writer::write_finding;
 use searching::finding::Finding;
 
 // A finding, and the place reached in the text.
-#[derive(Drop)]
+#[derive(Clone, Copy)]
 struct Given {
     finding: Finding,
     at: usize,

@@ -15,14 +15,14 @@ use scoring::score::z_score;
 use searching::finding::Finding;
 
 // z with its sign, or that there was no block to score.
-#[derive(Drop)]
+#[derive(Clone, Copy)]
 pub enum Score {
     Z(f64),
     NoSample,
 }
 
 // What an evaluation answers: a refusal, 0 where there is none, how many blocks are positive, and the score.
-#[derive(Drop)]
+#[derive(Clone, Copy)]
 pub struct Evaluated {
     pub refusal: u32,
     pub positive: u32,

@@ -5,7 +5,7 @@ ghost use Rattle.judging.specs.Plan.{width_for, after_eight, plan_of};
 use counting::block::valid_block_size;
 
 // A plan: a refusal, 0 where there is none, the number of pairs, and the block size and the width of each, 0 past the planned ones.
-#[derive(Drop)]
+#[derive(Clone, Copy)]
 pub struct Plan {
     pub refusal: u32,
     pub pairs: usize,

@@ -13,7 +13,7 @@ use judging::evaluation::{Evaluated, Score, evaluate_histogram};
 use searching::finding::Finding;
 
 // A finding, and the place reached in the text.
-#[derive(Drop)]
+#[derive(Clone, Copy)]
 struct Given {
     finding: Finding,
     at: usize,

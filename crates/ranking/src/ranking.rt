@@ -13,7 +13,7 @@ use counting::block::bin_count;
 use scoring::halves::{half_power, share, share_by};
 use scoring::score::{absolute, deviation, z_over};
 
-#[derive(Drop)]
+#[derive(Clone, Copy)]
 pub struct Ranking {
     pub division: u32,
     pub z: f64,

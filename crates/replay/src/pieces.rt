@@ -7,7 +7,7 @@ use sampling::feeding::feed;
 use sampling::sampler::Sampler;
 
 // What feeding the pieces answers: the sampler last returned, and how many feeds were refused.
-#[derive(Drop)]
+#[derive(Clone, Copy)]
 pub struct Taken {
     pub sampler: Sampler,
     pub refused: usize,

@@ -12,7 +12,7 @@ use searching::search::{bottomup, buffer_refusal, width_refusal};
 
 // What a replay answers: a refusal, 0 where there is none, how many feeds were refused, whether the store sufficed for a search by layers, whether the
 // findings of the two searches are the same, and the finding.
-#[derive(Drop)]
+#[derive(Clone, Copy)]
 pub struct Replayed {
     pub refusal: u32,
     pub refused: usize,

@@ -14,7 +14,7 @@ use layers::size::store_needed;
 use replay::replay::{Replayed, replay};
 
 // What a replay is given beside the recording and its lengths, and the place reached in the text.
-#[derive(Drop)]
+#[derive(Clone, Copy)]
 struct Case {
     block_size: usize,
     low_first: bool,

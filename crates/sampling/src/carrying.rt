@@ -9,7 +9,7 @@ use crate::sampler::{Head, Sampler, capacity_bytes, no_bytes, no_sampler};
 use counting::block::{place_in, valid_block_size};
 
 // A sampler of the earlier rule: the block size in bits, how many words are lent, the bytes taken so far (T), and whether the low bit of a byte comes first.
-#[derive(Drop)]
+#[derive(Clone, Copy)]
 pub struct Earlier {
     pub block_size: usize,
     pub words: usize,
@@ -18,7 +18,7 @@ pub struct Earlier {
 }
 
 // What the carry-over answers: a refusal, 0 where there is none, and the sampler that goes on.
-#[derive(Drop)]
+#[derive(Clone, Copy)]
 pub struct Carried {
     pub refusal: u32,
     pub sampler: Sampler,

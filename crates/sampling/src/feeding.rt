@@ -8,7 +8,7 @@ use crate::putting::{Place, put_bytes};
 use crate::sampler::{Head, Sampler, capacity_blocks, sampler_refusal};
 
 // What feed answers: a refusal, 0 where there is none, and the sampler for the next call.
-#[derive(Drop)]
+#[derive(Clone, Copy)]
 pub struct Fed {
     pub refusal: u32,
     pub sampler: Sampler,
@@ -16,7 +16,7 @@ pub struct Fed {
 
 // .. of a sampler whose unfinished bytes are lent: what a feed that is not refused changes of the numbers, n and how many unfinished bytes its board has; beside a
 // refusal 0.
-#[derive(Drop)]
+#[derive(Clone, Copy)]
 pub struct Taken {
     pub refusal: u32,
     pub blocks: usize,

@@ -5,7 +5,7 @@ ghost use Rattle.sampling.specs.Putting.{put_bit, put_bits, put_bytes};
 use counting::block::place_in;
 
 // A byte's place in the recording: its block, and which byte of the block it is.
-#[derive(Drop)]
+#[derive(Clone, Copy)]
 pub struct Place {
     pub block: usize,
     pub byte: usize,

@@ -7,7 +7,7 @@ use counting::block::valid_block_size;
 
 // All of a sampler but its unfinished bytes: the block size in bits, how many words are lent, the blocks completed so far (n), whether the low bit of a byte
 // comes first, and how many unfinished bytes each of the four boards has.
-#[derive(Drop)]
+#[derive(Clone, Copy)]
 pub struct Head {
     pub block_size: usize,
     pub words: usize,
@@ -17,14 +17,14 @@ pub struct Head {
 }
 
 // A recording in progress. Board b's unfinished bytes stand from place 512 × b on, and 0 past them; a block has at most 512 bytes.
-#[derive(Drop)]
+#[derive(Clone, Copy)]
 pub struct Sampler {
     pub head: Head,
     pub unfinished: [u8; 2048],
 }
 
 // What start answers: a refusal, 0 where there is none, and the fresh sampler.
-#[derive(Drop)]
+#[derive(Clone, Copy)]
 pub struct Started {
     pub refusal: u32,
     pub sampler: Sampler,

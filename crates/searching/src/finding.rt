@@ -4,7 +4,7 @@ ghost use Rattle.searching.specs.Finding.{marked, refused_with};
 
 // A distinguisher: the chosen bits in rising order with zeros past the width, the division of their bin order, the score there, and whether the low bit of a
 // byte comes first in its blocks.
-#[derive(Drop)]
+#[derive(Clone, Copy)]
 pub struct Finding {
     pub block_size: usize,
     pub width: usize,
@@ -15,7 +15,7 @@ pub struct Finding {
 }
 
 // What a search answers: a refusal, 0 where there is none, and the finding.
-#[derive(Drop)]
+#[derive(Clone, Copy)]
 pub struct Searched {
     pub refusal: u32,
     pub finding: Finding,

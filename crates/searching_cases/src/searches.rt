@@ -19,7 +19,7 @@ use searching::finding::Searched;
 use searching::search::bottomup;
 
 // What the searches are given, and the place reached in the text.
-#[derive(Drop)]
+#[derive(Clone, Copy)]
 struct Search {
     sampler: Head,
     first: usize,
@@ -32,7 +32,7 @@ struct Search {
 }
 
 // The sampler to search with, and the place reached in the text.
-#[derive(Drop)]
+#[derive(Clone, Copy)]
 struct Given {
     sampler: Head,
     at: usize,

@@ -12,7 +12,7 @@ use judging::training::train;
 use searching::finding::Finding;
 
 // The finding, and how many testing blocks are positive with what score.
-#[derive(Drop)]
+#[derive(Clone, Copy)]
 pub struct Judged {
     pub finding: Finding,
     pub positive: u32,

@@ -8,7 +8,7 @@ use crate::bits::{bits_refusal, valid_width};
 use crate::choose::choose_up_to;
 use counting::block::valid_block_size;
 
-#[derive(Drop)]
+#[derive(Clone, Copy)]
 pub struct Ranked {
     pub refusal: u32,
     pub rank: usize,

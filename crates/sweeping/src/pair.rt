@@ -10,7 +10,7 @@ use judging::training::train;
 use searching::finding::Finding;
 
 // A block size and a width of the plan, and the bit order.
-#[derive(Drop)]
+#[derive(Clone, Copy)]
 pub struct Pair {
     pub block_size: usize,
     pub width: usize,
@@ -18,7 +18,7 @@ pub struct Pair {
 }
 
 // The finding of a pair, how many testing blocks it was evaluated on, how many of them are positive, and both ends of the chance of that in units of 2^-40.
-#[derive(Drop)]
+#[derive(Clone, Copy)]
 pub struct Tested {
     pub finding: Finding,
     pub blocks: usize,

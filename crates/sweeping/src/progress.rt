@@ -7,7 +7,7 @@ use searching::finding::refused;
 
 // How many pairs were tested; whether the last of them was rejected, which ends the sweep; whether a bracket reaches down below the share; the pair with
 // the lowest lower end, and the last one.
-#[derive(Drop)]
+#[derive(Clone, Copy)]
 pub struct Progress {
     pub tested: usize,
     pub rejected: bool,

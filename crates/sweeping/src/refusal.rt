@@ -10,7 +10,7 @@ use sampling::sampler::capacity_bytes;
 use searching::search::buffer_refusal;
 
 // How many entries the lent buffers have.
-#[derive(Drop)]
+#[derive(Clone, Copy)]
 pub struct Room {
     pub words: usize,
     pub bins: usize,

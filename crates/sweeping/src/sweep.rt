@@ -14,7 +14,7 @@ use judging::plan::{Plan, configurations};
 
 // What a sweep answers: a refusal, 0 where there is none, the verdict, how many pairs were tested, the pair with the lowest lower end, the earlier where
 // two are equal, and the pair tested last, which is the one that is rejected where one is.
-#[derive(Drop)]
+#[derive(Clone, Copy)]
 pub struct Swept {
     pub refusal: u32,
     pub verdict: Verdict,

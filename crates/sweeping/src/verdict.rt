@@ -3,7 +3,7 @@ ghost use Rattle.std.specs.Prelude.{◌≡◌};
 ghost use Rattle.sweeping.specs.Verdict.{verdict_of};
 
 // Rejected: some pair's chance is below its share of the level. Undecided: some bracket leaves that open. Not rejected: none does.
-#[derive(Drop)]
+#[derive(Clone, Copy)]
 pub enum Verdict {
     Rejected,
     Undecided,

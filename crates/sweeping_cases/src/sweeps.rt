@@ -15,7 +15,7 @@ use sweeping::sweep::sweep;
 use sweeping::verdict::Verdict;
 
 // What a sweep is given beside the recording, the recording's length, and the place reached in the text.
-#[derive(Drop)]
+#[derive(Clone, Copy)]
 struct Case {
     level: u64,
     block_size: usize,

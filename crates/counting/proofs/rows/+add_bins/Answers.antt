@@ -1,0 +1,168 @@
+-- `rows::add_bins` meets its contract. The measure is the number of bits.
+use mathlib.Core.Path.{◌≡◌, refl, ap, sym, ◌∙◌}
+use lib.ListN.{length, get_or, take, length-take, length-drop}
+use lib.Seq.{length-take-le, length_front}
+use borrow.Rule.Slice.PartMut.{put_mid, same_len_mid}
+use Rattle.counting.specs.Tally.{word_at}
+use Rattle.counting.proofs.Marks.{part_at}
+use Rattle.counting.proofs.Halves.{half_size, upper_size, lower_size, rows_init, room_upper, room_lower, halves}
+use native.Mathlib.Omega.{arith}
+use Prim.Native.Nat.{ℕ, suc, ◌+◌, ◌-◌, ◌*◌, ◌/◌, ◌^◌, ◌≤◌}
+use Rattle.counting.proofs.rows.+add_bins.Goals.{Start}
+use Rattle.counting.proofs.rows.+add_bins.Goals as goal
+
+-- the last bit, half the bins and the bins
+sized : (t : ℕ) (s : Start t)
+    → (length s.args.bits.now ≡ suc (length s.args.bits.now - 1)) × (length s.args.bins.now / 2 ≡ 2 ^ (length s.args.bits.now - 1))
+    × (length s.args.bins.now ≡ length s.args.bins.now / 2 + length s.args.bins.now / 2)
+sized t s = half_size s.args.bits.now (length s.args.bins.now) s.requires.in_bounds.0 s.requires.in_bounds.2
+
+-- the row of the last bit
+row : (t : ℕ) (s : Start t) → get_or s.args.bits.now (length s.args.bits.now - 1) 0 * s.args.stride + s.args.stride ≤ length s.args.words.now
+row t s = s.requires.rows_in (length s.args.bits.now - 1) (omega (arith, (sized t s).0))
+
+-- the bits before the last
+init_size : (t : ℕ) (s : Start t) → length (take (length s.args.bits.now - 1) s.args.bits.now) ≡ length s.args.bits.now - 1
+init_size t s = length-take-le (length s.args.bits.now - 1) s.args.bits.now (omega (arith, (sized t s).0))
+
+init_power : (t : ℕ) (s : Start t) → length s.args.bins.now / 2 ≡ 2 ^ length (take (length s.args.bits.now - 1) s.args.bits.now)
+init_power t s = (sized t s).1 ∙ ap (λ (k : ℕ). 2 ^ k) (sym (init_size t s))
+
+-- as far as the chunk goes
+abbrev first : (t : ℕ) → Start t → ℕ
+first t s = get_or s.args.bits.now (length s.args.bits.now - 1) 0 * s.args.stride + s.args.start
+
+part_size : (t : ℕ) (s : Start t) → length (part_at s.args.words.now (first t s) ((s.args.n + 63) / 64)) ≡ (s.args.n + 63) / 64
+part_size t s = simp (length-take, length-drop) (omega (arith, row t s, s.requires.lanes_in))
+
+pub overflow_sub-last : goal.overflow_sub-last
+overflow_sub-last t c =
+    omega (arith, c.requires.in_bounds, c.requires.lanes_in, row t (goal.at.overflow_sub-last t c).Start, c.well_formed)
+
+pub offset_bounds-bits-last : goal.offset_bounds-bits-last
+offset_bounds-bits-last t c =
+    omega (arith, c.requires.in_bounds, c.requires.lanes_in, row t (goal.at.offset_bounds-bits-last t c).Start, c.well_formed)
+
+pub bounds-bits-last : goal.bounds-bits-last
+bounds-bits-last t c =
+    omega (arith, c.requires.in_bounds, c.requires.lanes_in, row t (goal.at.bounds-bits-last t c).Start, c.well_formed)
+
+pub overflow_cast-at : goal.overflow_cast-at
+overflow_cast-at t c = omega (arith, c.shared_slice_known-4-1.given (length c.args.bits.now - 1))
+
+pub overflow_mul-at : goal.overflow_mul-at
+overflow_mul-at t c =
+    omega (arith, c.requires.in_bounds, c.requires.lanes_in, row t (goal.at.overflow_mul-at t c).Start, c.well_formed)
+
+pub overflow_add-at : goal.overflow_add-at
+overflow_add-at t c =
+    omega (arith, c.requires.in_bounds, c.requires.lanes_in, row t (goal.at.overflow_add-at t c).Start, c.well_formed)
+
+pub overflow_add-end : goal.overflow_add-end
+overflow_add-end t c =
+    omega (arith, c.requires.in_bounds, c.requires.lanes_in, row t (goal.at.overflow_add-end t c).Start, c.well_formed)
+
+pub overflow_add-end-2 : goal.overflow_add-end-2
+overflow_add-end-2 t c =
+    omega (arith, c.requires.in_bounds, c.requires.lanes_in, row t (goal.at.overflow_add-end-2 t c).Start, c.well_formed)
+
+pub add_few-requires : goal.add_few-requires
+add_few-requires t c =
+    record { in_bounds = (c.requires.in_bounds.0, omega (arith, (sized t (goal.at.add_few-requires t c).Start).0, c.if-last-lt2.true), c.requires.in_bounds.2); rows_in = c.requires.rows_in; lanes_in = c.requires.lanes_in; count_room = c.requires.count_room; }
+
+pub returns-then-last-lt2 : goal.returns-then-last-lt2
+returns-then-last-lt2 t c = c.add_few.ensures
+
+pub offset_bounds-words-at : goal.offset_bounds-words-at
+offset_bounds-words-at t c =
+    omega (arith, c.requires.in_bounds, c.requires.lanes_in, row t (goal.at.offset_bounds-words-at t c).Start, c.well_formed)
+
+pub slice_bounds-and_to-end-2 : goal.slice_bounds-and_to-end-2
+slice_bounds-and_to-end-2 t c =
+    omega (arith, c.requires.in_bounds, c.requires.lanes_in, row t (goal.at.slice_bounds-and_to-end-2 t c).Start, c.well_formed)
+
+pub and_to-requires : goal.and_to-requires
+and_to-requires t c =
+    let long = part_size t (goal.at.and_to-requires t c).Start in
+    (omega (arith, c.requires.in_bounds, c.requires.lanes_in, row t (goal.at.and_to-requires t c).Start, c.well_formed), omega (arith, c.requires.in_bounds, c.requires.lanes_in, row t (goal.at.and_to-requires t c).Start, c.well_formed))
+
+pub slice_bounds-add_bins-end-2 : goal.slice_bounds-add_bins-end-2
+slice_bounds-add_bins-end-2 t c = sym (init_size t (goal.at.slice_bounds-add_bins-end-2 t c).Start)
+
+pub offset_bounds-bins-half : goal.offset_bounds-bins-half
+offset_bounds-bins-half t c =
+    omega (arith, c.requires.in_bounds, c.requires.lanes_in, row t (goal.at.offset_bounds-bins-half t c).Start, c.well_formed)
+
+pub add_bins-requires : goal.add_bins-requires
+add_bins-requires t c =
+    let a = c.args in
+    let half = length a.bins.now / 2 in (
+      omega (arith, (sized t (goal.at.add_bins-requires t c).Start).0, init_size t (goal.at.add_bins-requires t c).Start),
+      (
+        (omega (arith, init_size t (goal.at.add_bins-requires t c).Start, c.if-last-lt2.false), omega (arith, c.requires.in_bounds, init_size t (goal.at.add_bins-requires t c).Start), upper_size a.bins.now half (sized t (goal.at.add_bins-requires t c).Start).2 ∙ init_power t (goal.at.add_bins-requires t c).Start),
+        (
+          rows_init a.words.now a.stride a.bits.now (length a.bits.now - 1) c.requires.rows_in,
+          ((c.requires.lanes_in.0, omega (arith, c.and_to.auto.to, c.all_marked-part.ensures.value)), room_upper a.n half (length a.bins.now - half) a.bins.now c.requires.count_room),
+        ),
+      ),
+    )
+
+pub offset_bounds-words-at-2 : goal.offset_bounds-words-at-2
+offset_bounds-words-at-2 t c =
+    omega (arith, c.requires.in_bounds, c.requires.lanes_in, row t (goal.at.offset_bounds-words-at-2 t c).Start, c.well_formed)
+
+pub slice_bounds-and_to-end-4 : goal.slice_bounds-and_to-end-4
+slice_bounds-and_to-end-4 t c =
+    omega (arith, c.requires.in_bounds, c.requires.lanes_in, row t (goal.at.slice_bounds-and_to-end-4 t c).Start, c.well_formed)
+
+pub and_to-requires-2 : goal.and_to-requires-2
+and_to-requires-2 t c =
+    let long = part_size t (goal.at.and_to-requires-2 t c).Start in
+    (omega (arith, c.requires.in_bounds, c.requires.lanes_in, row t (goal.at.and_to-requires-2 t c).Start, c.well_formed), omega (arith, c.requires.in_bounds, c.requires.lanes_in, row t (goal.at.and_to-requires-2 t c).Start, c.well_formed, c.and_to.auto.to, c.all_marked-part.ensures.value))
+
+pub slice_bounds-add_bins-end-5 : goal.slice_bounds-add_bins-end-5
+slice_bounds-add_bins-end-5 t c = sym (init_size t (goal.at.slice_bounds-add_bins-end-5 t c).Start)
+
+pub slice_bounds-add_bins-end-7 : goal.slice_bounds-add_bins-end-7
+slice_bounds-add_bins-end-7 t c =
+    sym (lower_size c.args.bins.now c.add_bins.new.bins (length c.args.bins.now / 2) (length c.args.bins.now - length c.args.bins.now / 2) (sized t (goal.at.slice_bounds-add_bins-end-7 t c).Start).2)
+
+pub add_bins-requires-2 : goal.add_bins-requires-2
+add_bins-requires-2 t c =
+    let a = c.args in
+    let half = length a.bins.now / 2 in
+    let upper = c.add_bins.new.bins in
+    let fits : half ≤ length a.bins.now = omega arith in (
+      omega (arith, (sized t (goal.at.add_bins-requires-2 t c).Start).0, init_size t (goal.at.add_bins-requires-2 t c).Start),
+      (
+        (omega (arith, init_size t (goal.at.add_bins-requires-2 t c).Start, c.if-last-lt2.false), omega (arith, c.requires.in_bounds, init_size t (goal.at.add_bins-requires-2 t c).Start), lower_size a.bins.now upper half (length a.bins.now - half) (sized t (goal.at.add_bins-requires-2 t c).Start).2 ∙ init_power t (goal.at.add_bins-requires-2 t c).Start),
+        (
+          rows_init a.words.now a.stride a.bits.now (length a.bits.now - 1) c.requires.rows_in,
+          (
+            (c.requires.lanes_in.0, omega (arith, c.and_to-2.auto.to, c.and_to.auto.to, c.all_marked-part.ensures.value)),
+            room_lower a.n half (length a.bins.now - half) a.bins.now upper fits c.requires.count_room,
+          ),
+        ),
+      ),
+    )
+
+pub shape_of-bins : goal.shape_of-bins
+shape_of-bins t c =
+    let bins = c.args.bins.now in
+    let half = length bins / 2 in
+    let upper = c.add_bins in
+    let lower = c.add_bins-2 in
+    length_front (put_mid half (length bins - half) bins upper.new.bins) lower.new.bins half lower.auto.bins
+    ∙ same_len_mid half (length bins - half) bins upper.new.bins upper.auto.bins
+
+pub returns : goal.returns
+returns t c =
+    let a = c.args in
+    let upper = c.add_bins in
+    let lower = c.add_bins-2 in
+    let marks = c.and_to in
+    let marks' = c.and_to-2 in
+    halves a.words.now a.stride a.start a.n a.bits.now (length a.bits.now - 1) (first t (goal.at.returns t c).Start) (sized t (goal.at.returns t c).Start).0 refl (word_at a.acc.now)
+    a.bins.now upper.new.bins lower.new.bins (word_at marks.new.to) (word_at marks'.new.to) (length a.bins.now / 2) (sized t (goal.at.returns t c).Start).1 (sized t (goal.at.returns t c).Start).2
+    (omega (arith, row t (goal.at.returns t c).Start, c.requires.lanes_in))
+    upper.auto.bins lower.auto.bins (λ u l. omega (arith, marks.ensures u l)) (λ u l. omega (arith, marks'.ensures u l)) upper.ensures lower.ensures

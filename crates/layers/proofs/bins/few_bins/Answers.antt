@@ -1,0 +1,123 @@
+-- `bins::few_bins` meets its contract: the count of the run is the candidate's own, and those of single bits stand in the store.
+use Prim.Native.Nat.{ℕ, ◌+◌, ◌-◌, ◌^◌, ◌≤◌, ◌<◌}
+use mathlib.Core.List.{[], ◌∷◌}
+use mathlib.Core.Path.{◌≡◌}
+use native.Mathlib.Omega.{arith}
+use lib.ListN.{length, get_or}
+use Rattle.counting.specs.Sample.{all_set}
+use Rattle.counting.specs.Stretch.{span, stretch_bit}
+use Rattle.counting.proofs.Stretches.{stretch_lt}
+use Rattle.subsets.proofs.Listing.{bits_below}
+use Rattle.layers.specs.Run.{last_bit}
+use Rattle.layers.proofs.Leading.{own_count}
+use Rattle.layers.proofs.Pairing.{single_fits, single_split, pair_fits, pair_split}
+use Rattle.layers.proofs.Running.{single_at, store_room}
+use Rattle.layers.proofs.bins.few_bins.Goals.{After-span-n, Start}
+use Rattle.layers.proofs.bins.few_bins.Goals as goal
+
+-- the last bit is in the block, and its count in the run's numbers
+inside : (s : Start) → last_bit s.args.bits.now < s.args.stretch.block_size
+inside s =
+    let b = s.args.bits.now in
+    bits_below s.args.stretch.block_size (length b) b s.requires.subset (length b - 1) (omega (arith, s.requires.in_bounds))
+
+room : (s : Start) → 441 + s.args.stretch.block_size ≤ length s.args.run.now
+room s = s.requires.run.tables.tops.room
+
+own : (s : Start) → let a = s.args in get_or a.run.now (441 + last_bit a.bits.now) 0 ≡ all_set (stretch_bit a.stretch a.words.now) (span a.stretch) a.bits.now
+own s =
+    let a = s.args in
+    own_count _ _ a.stretch.block_size a.bits.now a.run.now s.requires.in_bounds.0 s.requires.subset s.requires.run
+
+-- the number of blocks
+all_are : (d : After-span-n) → d.span-n.result ≡ span d.args.stretch
+all_are d = d.span-n.ensures
+
+-- a bit is in the block
+among : (s : Start) (i : ℕ) → i < length s.args.bits.now → get_or s.args.bits.now i 0 < s.args.stretch.block_size
+among s i h = bits_below s.args.stretch.block_size (length s.args.bits.now) s.args.bits.now s.requires.subset i h
+
+-- its count in the store
+single : (s : Start) (b : ℕ) → b < s.args.stretch.block_size → let a = s.args in get_or a.store.now b 0 ≡ all_set (stretch_bit a.stretch a.words.now) (span a.stretch) (b ∷ [])
+single s b h = let a = s.args in single_at _ _ a.stretch.block_size (length a.bits.now) a.store.now s.requires.holds b h
+
+-- the store has an entry for each bit
+kept : (s : Start) → s.args.stretch.block_size ≤ length s.args.store.now
+kept s =
+    let a = s.args in
+    omega (arith, store_room a.stretch.block_size (length a.bits.now), s.requires.holds.roomy.room)
+
+pub overflow_cast-last : goal.overflow_cast-last
+overflow_cast-last c = omega (arith, inside (goal.at.overflow_cast-last c).Start, room (goal.at.overflow_cast-last c).Start, c.well_formed)
+
+pub overflow_add-count : goal.overflow_add-count
+overflow_add-count c = omega (arith, inside (goal.at.overflow_add-count c).Start, room (goal.at.overflow_add-count c).Start, c.well_formed)
+
+pub offset_bounds-run-last : goal.offset_bounds-run-last
+offset_bounds-run-last c = omega (arith, inside (goal.at.offset_bounds-run-last c).Start, room (goal.at.offset_bounds-run-last c).Start, c.well_formed)
+
+pub bounds-run-last : goal.bounds-run-last
+bounds-run-last c = omega (arith, inside (goal.at.bounds-run-last c).Start, room (goal.at.bounds-run-last c).Start)
+
+pub span-n-requires : goal.span-n-requires
+span-n-requires c = c.requires.in_bounds.2
+
+pub single_bins-requires : goal.single_bins-requires
+single_bins-requires c =
+    let a = c.args in
+    let one : length a.bits.now ≡ 1 = c.if-bits-eq1.true in
+    let two : 2 ^ length a.bits.now ≤ length a.bins.now = c.requires.bits_in_bounds in
+    let enough : 2 ≤ length a.bins.now = rw one at two in
+    (enough, rw (all_are (goal.at.single_bins-requires c).After-span-n) (single_fits (stretch_bit a.stretch a.words.now) (stretch_lt a.stretch a.words.now) (span a.stretch) a.bits.now one _ (own (goal.at.single_bins-requires c).Start)))
+
+pub returns-then-bits-eq1 : goal.returns-then-bits-eq1
+returns-then-bits-eq1 c =
+    let a = c.args in
+    let one : length a.bits.now ≡ 1 = c.if-bits-eq1.true in
+    let two : 2 ^ length a.bits.now ≤ length a.bins.now = c.requires.bits_in_bounds in
+    let enough : 2 ≤ length a.bins.now = rw one at two in
+    single_split (stretch_bit a.stretch a.words.now) (stretch_lt a.stretch a.words.now) (span a.stretch) a.bits.now one a.bins.now _ _ (own (goal.at.returns-then-bits-eq1 c).Start)
+    c.single_bins.auto.bins enough (rw (all_are (goal.at.returns-then-bits-eq1 c).After-span-n) at c.single_bins.ensures)
+
+pub bounds-bits-0 : goal.bounds-bits-0
+bounds-bits-0 c = omega (arith, c.requires.in_bounds)
+
+pub overflow_cast-before : goal.overflow_cast-before
+overflow_cast-before c =
+    omega (arith, among (goal.at.overflow_cast-before c).Start 0 (omega (arith, c.requires.in_bounds)), kept (goal.at.overflow_cast-before c).Start, c.well_formed)
+
+pub offset_bounds-store-before : goal.offset_bounds-store-before
+offset_bounds-store-before c =
+    omega (arith, among (goal.at.offset_bounds-store-before c).Start 0 (omega (arith, c.requires.in_bounds)), room (goal.at.offset_bounds-store-before c).Start, c.well_formed)
+
+pub bounds-store-before : goal.bounds-store-before
+bounds-store-before c =
+    omega (arith, among (goal.at.bounds-store-before c).Start 0 (omega (arith, c.requires.in_bounds)), kept (goal.at.bounds-store-before c).Start)
+
+pub offset_bounds-store-last : goal.offset_bounds-store-last
+offset_bounds-store-last c =
+    omega (arith, inside (goal.at.offset_bounds-store-last c).Start, room (goal.at.offset_bounds-store-last c).Start, c.well_formed)
+
+pub bounds-store-last : goal.bounds-store-last
+bounds-store-last c =
+    omega (arith, inside (goal.at.bounds-store-last c).Start, kept (goal.at.bounds-store-last c).Start)
+
+pub pair_bins-requires : goal.pair_bins-requires
+pair_bins-requires c =
+    let a = c.args in
+    let two : length a.bits.now ≡ 2 = omega (arith, c.if-bits-eq1.false, c.requires.in_bounds) in
+    let four : 2 ^ length a.bits.now ≤ length a.bins.now = c.requires.bits_in_bounds in
+    let enough : 4 ≤ length a.bins.now = rw two at four in
+    let p = pair_fits (stretch_bit a.stretch a.words.now) (stretch_lt a.stretch a.words.now) (span a.stretch) a.bits.now two _ _ _
+    (single (goal.at.pair_bins-requires c).Start (get_or a.bits.now 0 0) (among (goal.at.pair_bins-requires c).Start 0 (omega arith))) (single (goal.at.pair_bins-requires c).Start (last_bit a.bits.now) (inside (goal.at.pair_bins-requires c).Start)) (own (goal.at.pair_bins-requires c).Start) in
+    (enough, p.0, p.1, rw (all_are (goal.at.pair_bins-requires c).After-span-n) p.2)
+
+pub returns : goal.returns
+returns c =
+    let a = c.args in
+    let two : length a.bits.now ≡ 2 = omega (arith, c.if-bits-eq1.false, c.requires.in_bounds) in
+    let four : 2 ^ length a.bits.now ≤ length a.bins.now = c.requires.bits_in_bounds in
+    let enough : 4 ≤ length a.bins.now = rw two at four in
+    pair_split (stretch_bit a.stretch a.words.now) (stretch_lt a.stretch a.words.now) (span a.stretch) a.bits.now two _ _ _
+    (single (goal.at.returns c).Start (get_or a.bits.now 0 0) (among (goal.at.returns c).Start 0 (omega arith))) (single (goal.at.returns c).Start (last_bit a.bits.now) (inside (goal.at.returns c).Start)) (own (goal.at.returns c).Start)
+    a.bins.now _ c.pair_bins.auto.bins enough (rw (all_are (goal.at.returns c).After-span-n) at c.pair_bins.ensures)

@@ -1,0 +1,94 @@
+-- `bins::leading_bins` meets its contract: with m - 1 bits taken, the first 2^(m - 1) bins are theirs.
+use Prim.Native.Nat.{ℕ, ◌+◌, ◌-◌, ◌^◌, ◌≤◌, ◌<◌}
+use mathlib.Core.Path.{◌≡◌, refl, sym, ap, ◌∙◌}
+use native.Mathlib.Omega.{arith}
+use mathlib.Core.List.{List, []}
+use lib.ListN.{length, get_or, take, drop, set, length-set}
+use lib.Pow.{pow_pos, pow_mono}
+use lib.Seq.{length-take-le, take-take, drop-set-lt, get_or-set_same}
+use Rattle.counting.specs.Sample.{count_in}
+use Rattle.counting.specs.Stretch.{span, stretch_bit}
+use Rattle.layers.proofs.Leading.{subset_take, tables_take, none_counted, counts_at, counts_past}
+use Rattle.layers.proofs.Parting.{past_larger}
+use Rattle.layers.proofs.bins.leading_bins.Invariants.{Split}
+use Rattle.layers.proofs.bins.leading_bins.Goals as goal
+
+-- the first m bits but the last of them
+shorter : (m : ℕ) (bits : List ℕ) → m ≤ length bits → take (m - 1) (take m bits) ≡ take (m - 1) bits
+shorter m bits h = take-take (m - 1) m bits (omega arith)
+
+pub span-requires : goal.span-requires
+span-requires c = c.requires.in_bounds.2
+
+pub bounds-bins-0 : goal.bounds-bins-0
+bounds-bins-0 c = omega (arith, pow_pos (length c.args.bits.now), c.requires.bits_in_bounds.1)
+
+pub loop-m-init : goal.loop-m-init
+loop-m-init c =
+    let a = c.args in record {
+      some = omega arith;
+      within = c.requires.in_bounds.0;
+      part_size = refl;
+      bin_size = refl;
+      counted = λ v h.
+          let z : v ≡ 0 = omega arith in
+          ap (λ (x : ℕ). get_or (set a.bins.now 0 c.span.result) x 0) z
+          ∙ get_or-set_same a.bins.now 0 c.span.result 0 (omega (arith, pow_pos (length a.bits.now), c.requires.bits_in_bounds.1))
+          ∙ c.span.ensures ∙ none_counted (stretch_bit a.stretch a.words.now) (span a.stretch)
+          ∙ ap (count_in (stretch_bit a.stretch a.words.now) (span a.stretch) []) (sym z);
+      bin_rest = refl;
+      part_rest = refl;
+    }
+
+pub slice_bounds-split_bins-end : goal.slice_bounds-split_bins-end
+slice_bounds-split_bins-end c =
+    sym (length-take-le c.loop-m.m c.args.bits.now c.loop-m.invariant.within)
+
+pub split_bins-requires : goal.split_bins-requires
+split_bins-requires c =
+    let a = c.args in
+    let B = a.stretch.block_size in
+    let b = a.bits.now in
+    let m = c.loop-m.m in
+    let w = c.loop-m.invariant in
+    let size : length (take m b) ≡ m = length-take-le m b w.within in
+    let small : 2 ^ m ≤ 2 ^ length b = pow_mono w.within in
+    rw size (record { in_bounds = (w.some, w.within, c.requires.in_bounds.1); subset = subset_take B m b w.within c.requires.subset; count_value = λ e. absurd (omega (arith, c.loop-m-test.true)); holds = c.requires.holds; tables = tables_take B (length b) m b a.run.now w.within c.requires.tables; bits_in_bounds = (omega (arith, small, w.part_size, c.requires.bits_in_bounds.0), omega (arith, small, w.bin_size, length-set a.bins.now 0 c.span.result, c.requires.bits_in_bounds.1)); halved = λ v h. w.counted v h ∙ ap (λ (p : List ℕ). count_in (stretch_bit a.stretch a.words.now) (span a.stretch) p v) (sym (shorter m b w.within)); })
+
+pub loop-m-preserved : goal.loop-m-preserved
+loop-m-preserved c =
+    let a = c.args in
+    let b = a.bits.now in
+    let m = c.loop-m.m in
+    let w = c.loop-m.invariant in
+    let r = c.split_bins in
+    let bit = stretch_bit a.stretch a.words.now in
+    let n = span a.stretch in
+    let size : length (take m b) ≡ m = length-take-le m b w.within in
+    let small : 2 ^ length (take m b) ≤ 2 ^ length b = pow_mono (let h : length (take m b) ≤ length b = omega (arith, w.within) in h) in
+    let back : m + 1 - 1 ≡ m = omega arith in record {
+      some = omega arith;
+      within = omega (arith, c.loop-m-test.true);
+      part_size = r.auto.parts ∙ w.part_size;
+      bin_size = r.auto.bins ∙ w.bin_size;
+      counted = λ v h.
+          let below : v < 2 ^ length (take m b) = rw size (rw back at h) in
+          ap (λ (x : List ℕ). get_or x v 0) r.ensures.bins_after ∙ counts_at bit n (take m b) (drop (2 ^ length (take m b)) c.loop-m.bins) v below
+          ∙ ap (λ (x : ℕ). count_in bit n (take x b) v) (sym back);
+      bin_rest = ap (drop (2 ^ length b)) r.ensures.bins_after ∙ counts_past bit n (take m b) c.loop-m.bins (2 ^ length b) small ∙ w.bin_rest;
+      part_rest = past_larger (2 ^ length (take m b)) (2 ^ length b) _ c.loop-m.parts small r.ensures.parts_unchanged ∙ w.part_rest;
+    }
+
+pub shape_of-parts : goal.shape_of-parts
+shape_of-parts c = c.loop-m.invariant.part_size
+
+pub shape_of-bins : goal.shape_of-bins
+shape_of-bins c =
+    c.loop-m.invariant.bin_size ∙ length-set c.args.bins.now 0 c.span.result
+
+pub returns : goal.returns
+returns c =
+    let a = c.args in
+    let b = a.bits.now in
+    let w = c.loop-m.invariant in
+    let e : c.loop-m.m ≡ length b = omega (arith, w.within, c.loop-m-test.false) in record { halved = λ v h. rw e at w.counted v h; bins_unchanged = w.bin_rest ∙ drop-set-lt (2 ^ length b) a.bins.now 0 c.span.result (pow_pos (length b)); parts_unchanged = w.part_rest; }

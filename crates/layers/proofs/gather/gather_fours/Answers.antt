@@ -1,0 +1,389 @@
+-- `gather::gather_fours` meets its contract: four numbers at a turn.
+use Prim.Native.Nat.{ℕ, ◌+◌, ◌-◌, ◌*◌, ◌%◌, ◌^◌, ◌≤◌, ◌<◌, min}
+use mathlib.Core.Path.{◌≡◌, refl, sym, ap, subst, ◌∙◌}
+use mathlib.Core.Logic.{⊎_elim, inl, inr}
+use native.Mathlib.Omega.{arith}
+use lib.Count.{ones, count_trailing_zeros}
+use lib.ListN.{length, get_or, set, length-set}
+use lib.Pow.{pow_pos, pow_mono}
+use lib.Seq.{get_or-set_same, get_or-set_other}
+use Rattle.counting.proofs.Marks.{shifted_one}
+use Rattle.layers.proofs.Picking.{doubled, power_four, four_stays}
+use Rattle.layers.proofs.Gathering.{Turn, turn, Entry, own_entry, second_entry, third_entry, fourth_entry}
+use Rattle.layers.proofs.Gathering.{Parts, parts_none, part_before, parts_more, Entries, entries_none, entries_more, entries_three}
+use Rattle.layers.proofs.gather.gather_fours.Goals.{In-loop-u, Start, else-u-end, then-u-end}
+use Rattle.layers.proofs.gather.gather_fours.Goals as goal
+
+-- ---- the places of a turn, in order, and from each where the turn begins
+
+-- ---- the first number, and how many there are
+
+from_is : (s : Start) → let m = length s.args.bits.now - 1 in 1 * 2 ^ m % 2 ^ 64 ≡ 2 ^ m
+from_is s = shifted_one 64 (length s.args.bits.now - 1) (omega (arith, s.requires.in_bounds))
+
+some_parts : (s : Start) → 0 < length s.args.parts.now
+some_parts s = omega (arith, pow_pos (length s.args.bits.now), s.requires.bits_in_bounds.0)
+
+at_most : (s : Start) → 2 ^ length s.args.bits.now ≤ 2 ^ 20
+at_most s = pow_mono s.requires.in_bounds.1
+
+-- ---- the four numbers of a turn
+
+above : (d : In-loop-u) → 1 ≤ d.loop-u.u
+above d = omega (arith, d.loop-u.invariant.0, pow_pos (length d.args.bits.now - 1))
+
+-- all are below the number of all subsets, which is a multiple of 4 too
+below : (d : In-loop-u) → d.loop-u.u + 4 ≤ 2 ^ length d.args.bits.now
+below d =
+    omega (arith, d.loop-u-test.true, d.requires.k_bound.1, d.loop-u.invariant.1, power_four (length d.args.bits.now) (omega (arith, d.requires.in_bounds.0)))
+
+-- and all but the last are gathered
+within : (d : In-loop-u) → d.loop-u.u + 3 ≤ d.args.end
+within d = omega (arith, below d, d.requires.k_bound.2)
+
+now_turn : (d : In-loop-u)
+    → let a = d.args in
+    let u = d.loop-u.u in
+    Turn a.block_size a.k a.bits.now a.store.now a.run.now u (count_trailing_zeros 32 u) (ones u)
+now_turn d =
+    let a = d.args in
+    turn a.block_size a.k a.bits.now a.store.now a.run.now d.requires.in_bounds.1 d.requires.k_bound.0 d.requires.subset d.requires.roomy d.requires.tables
+    d.loop-u.u (above d) (omega (arith, below d)) (d.requires.k_bound.3 d.loop-u.u d.loop-u-test.true)
+
+few : (d : In-loop-u) → (count_trailing_zeros 32 d.loop-u.u < 20) × (ones d.loop-u.u ≤ 20)
+few d = (omega (arith, (now_turn d).place, d.requires.in_bounds), omega (arith, (now_turn d).width, d.requires.k_bound.0))
+
+-- the lowest one, as a power
+low_is : (d : In-loop-u) → let i = count_trailing_zeros 32 d.loop-u.u in 1 * 2 ^ i % 2 ^ 64 ≡ 2 ^ i
+low_is d = shifted_one 64 (count_trailing_zeros 32 d.loop-u.u) (omega (arith, (few d).0))
+
+-- the parts that the code works out: that of the first without its lowest one, of the first, of the third
+abbrev rest_part : In-loop-u → ℕ
+rest_part d =
+    let u = d.loop-u.u in
+    get_or d.loop-u.parts (u - 1 * 2 ^ count_trailing_zeros 32 u % 2 ^ 64) 0
+
+abbrev first_part : In-loop-u → ℕ
+first_part d =
+    let u = d.loop-u.u in
+    get_or d.args.run.now ((count_trailing_zeros 32 u + 1) * 21 + ones u) 0 + rest_part d
+
+abbrev third-part : In-loop-u → ℕ
+third-part d = get_or d.args.run.now (43 + ones d.loop-u.u) 0 + first_part d
+
+abbrev At : (d : In-loop-u) (w t y x : ℕ) → Type 0
+At d w t y x =
+    let a = d.args in
+    Entry a.block_size a.k a.bits.now a.store.now a.run.now w t y x
+
+first : (d : In-loop-u)
+    → let u = d.loop-u.u in
+    At d u (ones u) ((count_trailing_zeros 32 u + 1) * 21 + ones u) (rest_part d)
+first d =
+    let a = d.args in
+    let l = d.loop-u in
+    let i : ℕ = count_trailing_zeros 32 l.u in
+    let e : l.u - 1 * 2 ^ i % 2 ^ 64 ≡ l.u - 2 ^ i = ap (λ (x : ℕ). l.u - x) (low_is d) in
+    own_entry a.block_size a.k a.bits.now a.store.now a.run.now d.requires.in_bounds.1 d.requires.k_bound.0 d.requires.subset d.requires.roomy d.requires.tables
+    l.u (rest_part d) (above d) (omega (arith, below d)) (d.requires.k_bound.3 l.u d.loop-u-test.true)
+    (ap (λ (x : ℕ). get_or l.parts x 0) e
+    ∙ part_before a.block_size a.bits.now (set a.parts.now 0 0) (2 ^ (length a.bits.now - 1)) 4 l.u l.parts l.invariant.2
+    refl (omega (arith, d.requires.in_bounds.0)) d.requires.in_bounds.1 l.invariant.0 (omega (arith, below d)) (four_stays 30 l.u l.invariant.1))
+
+second : (d : In-loop-u)
+    → let u = d.loop-u.u in
+    At d (u + 1) (ones u + 1) (22 + ones u) (first_part d)
+second d =
+    let a = d.args in
+    let l = d.loop-u in
+    second_entry a.block_size a.k a.bits.now a.store.now a.run.now d.requires.in_bounds.1 d.requires.k_bound.0 d.requires.subset d.requires.roomy d.requires.tables
+    l.u (first_part d) l.invariant.1 (omega (arith, below d)) (d.requires.k_bound.3 (l.u + 1) (omega (arith, within d))) (first d).part
+
+third : (d : In-loop-u)
+    → let u = d.loop-u.u in
+    At d (u + 2) (ones u + 1) (43 + ones u) (first_part d)
+third d =
+    let a = d.args in
+    let l = d.loop-u in
+    third_entry a.block_size a.k a.bits.now a.store.now a.run.now d.requires.in_bounds.1 d.requires.k_bound.0 d.requires.subset d.requires.roomy d.requires.tables
+    l.u (first_part d) l.invariant.1 (omega (arith, below d)) (d.requires.k_bound.3 (l.u + 2) (omega (arith, within d))) (first d).part
+
+fourth : (d : In-loop-u)
+    → let u = d.loop-u.u in
+    u + 3 < d.args.end → At d (u + 3) (ones u + 2) (23 + ones u) (third-part d)
+fourth d h =
+    let a = d.args in
+    let l = d.loop-u in
+    fourth_entry a.block_size a.k a.bits.now a.store.now a.run.now d.requires.in_bounds.1 d.requires.k_bound.0 d.requires.subset d.requires.roomy d.requires.tables
+    l.u (third-part d) l.invariant.1 (omega (arith, below d)) (d.requires.k_bound.3 (l.u + 3) h) (third d).part
+
+-- the buffers hold them
+in_parts : (d : In-loop-u) → d.loop-u.u + 4 ≤ length d.loop-u.parts
+in_parts d =
+    omega (arith, below d, d.loop-u.invariant.2.size, length-set d.args.parts.now 0 0, d.requires.bits_in_bounds.0)
+
+in_bins : (d : In-loop-u) (j : ℕ) → j < 4 → d.loop-u.u + j < length d.loop-u.bins
+in_bins d j h =
+    omega (arith, below d, d.loop-u.invariant.3.size, d.requires.bits_in_bounds.1)
+
+pub overflow_sub-u : goal.overflow_sub-u
+overflow_sub-u c = omega (arith, c.requires.in_bounds)
+
+pub overflow_cast-u : goal.overflow_cast-u
+overflow_cast-u c = omega (arith, c.requires.in_bounds)
+
+pub overflow_cast-u-2 : goal.overflow_cast-u-2
+overflow_cast-u-2 c = omega (arith, c.requires.in_bounds)
+
+pub overflow_shl-u : goal.overflow_shl-u
+overflow_shl-u c = omega (arith, c.requires.in_bounds)
+
+pub bounds-parts-0 : goal.bounds-parts-0
+bounds-parts-0 c = some_parts c
+
+pub loop-u-init : goal.loop-u-init
+loop-u-init c =
+    let a = c.args in
+    let from : ℕ = 2 ^ (length a.bits.now - 1) in
+    let four : from % 4 ≡ 0 = power_four (length a.bits.now - 1) (omega (arith, c.requires.in_bounds)) in
+    let grows : 2 ^ (length a.bits.now - 1) * 2 ≡ 2 ^ length a.bits.now = doubled (length a.bits.now) (omega (arith, c.requires.in_bounds)) in
+    let start : min (1 * 2 ^ (length a.bits.now - 1) % 2 ^ 64) a.end ≡ from = omega (arith, from_is c, pow_pos (length a.bits.now - 1), c.requires.k_bound.2) in (
+      omega (arith, from_is c),
+      omega (arith, from_is c),
+      subst (λ (x : ℕ). Parts a.block_size a.bits.now (set a.parts.now 0 0) from 4 x (set a.parts.now 0 0)) (sym (from_is c))
+          (parts_none a.block_size a.bits.now (set a.parts.now 0 0) from 4 (get_or-set_same a.parts.now 0 0 0 (some_parts c))),
+      subst (λ (x : ℕ). Entries a.block_size a.k a.bits.now a.store.now a.bins.now from x a.bins.now) (sym start)
+          (entries_none a.block_size a.k a.bits.now a.store.now a.bins.now from),
+    )
+
+pub overflow_cast-i : goal.overflow_cast-i
+overflow_cast-i c = omega (arith, below c, at_most (goal.at.overflow_cast-i c).Start)
+
+pub overflow_cast-i-in-loop-u : goal.overflow_cast-i-in-loop-u
+overflow_cast-i-in-loop-u c = omega (arith, few c)
+
+pub overflow_cast-d : goal.overflow_cast-d
+overflow_cast-d c = omega (arith, below c, at_most (goal.at.overflow_cast-d c).Start)
+
+pub overflow_cast-d-in-loop-u : goal.overflow_cast-d-in-loop-u
+overflow_cast-d-in-loop-u c = omega (arith, few c)
+
+pub overflow_add-part : goal.overflow_add-part
+overflow_add-part c = omega (arith, few c)
+
+pub overflow_mul-part : goal.overflow_mul-part
+overflow_mul-part c = omega (arith, few c)
+
+pub overflow_add-part-in-loop-u : goal.overflow_add-part-in-loop-u
+overflow_add-part-in-loop-u c = omega (arith, few c)
+
+pub offset_bounds-run-i : goal.offset_bounds-run-i
+offset_bounds-run-i c = omega (arith, few c)
+
+pub bounds-run-i : goal.bounds-run-i
+bounds-run-i c = (first (goal.at.bounds-run-i c).In-loop-u).way_in
+
+pub overflow_shl-part : goal.overflow_shl-part
+overflow_shl-part c = omega (arith, few (goal.at.overflow_shl-part c).In-loop-u)
+
+pub overflow_sub-part : goal.overflow_sub-part
+overflow_sub-part c = omega (arith, low_is (goal.at.overflow_sub-part c).In-loop-u, (now_turn (goal.at.overflow_sub-part c).In-loop-u).has)
+
+pub offset_bounds-parts-u : goal.offset_bounds-parts-u
+offset_bounds-parts-u c = omega (arith, below (goal.at.offset_bounds-parts-u c).In-loop-u, at_most (goal.at.offset_bounds-parts-u c).Start)
+
+pub bounds-parts-u : goal.bounds-parts-u
+bounds-parts-u c = omega (arith, in_parts (goal.at.bounds-parts-u c).In-loop-u)
+
+pub overflow_add-part-in-loop-u-2 : goal.overflow_add-part-in-loop-u-2
+overflow_add-part-in-loop-u-2 c = omega (arith, (first (goal.at.overflow_add-part-in-loop-u-2 c).In-loop-u).small)
+
+pub offset_bounds-parts-u-in-loop-u : goal.offset_bounds-parts-u-in-loop-u
+offset_bounds-parts-u-in-loop-u c = omega (arith, below (goal.at.offset_bounds-parts-u-in-loop-u c).In-loop-u, at_most (goal.at.offset_bounds-parts-u-in-loop-u c).Start)
+
+pub bounds-parts-u-in-loop-u : goal.bounds-parts-u-in-loop-u
+bounds-parts-u-in-loop-u c = omega (arith, in_parts (goal.at.bounds-parts-u-in-loop-u c).In-loop-u)
+
+pub overflow_add-third : goal.overflow_add-third
+overflow_add-third c = omega (arith, few (goal.at.overflow_add-third c).In-loop-u)
+
+pub offset_bounds-run-d : goal.offset_bounds-run-d
+offset_bounds-run-d c = omega (arith, few (goal.at.offset_bounds-run-d c).In-loop-u)
+
+pub bounds-run-d : goal.bounds-run-d
+bounds-run-d c = (third (goal.at.bounds-run-d c).In-loop-u).way_in
+
+pub overflow_add-third-in-loop-u : goal.overflow_add-third-in-loop-u
+overflow_add-third-in-loop-u c = omega (arith, (third (goal.at.overflow_add-third-in-loop-u c).In-loop-u).small)
+
+pub overflow_add-top : goal.overflow_add-top
+overflow_add-top c = omega (arith, few (goal.at.overflow_add-top c).In-loop-u)
+
+pub offset_bounds-run-d-in-loop-u : goal.offset_bounds-run-d-in-loop-u
+offset_bounds-run-d-in-loop-u c = omega (arith, few (goal.at.offset_bounds-run-d-in-loop-u c).In-loop-u)
+
+pub bounds-run-d-in-loop-u : goal.bounds-run-d-in-loop-u
+bounds-run-d-in-loop-u c = (third (goal.at.bounds-run-d-in-loop-u c).In-loop-u).top_in
+
+pub offset_bounds-run-d-in-loop-u-2 : goal.offset_bounds-run-d-in-loop-u-2
+offset_bounds-run-d-in-loop-u-2 c = omega (arith, few (goal.at.offset_bounds-run-d-in-loop-u-2 c).In-loop-u)
+
+pub bounds-run-d-in-loop-u-2 : goal.bounds-run-d-in-loop-u-2
+bounds-run-d-in-loop-u-2 c = (first (goal.at.bounds-run-d-in-loop-u-2 c).In-loop-u).top_in
+
+pub overflow_sub-bins : goal.overflow_sub-bins
+overflow_sub-bins c = (first (goal.at.overflow_sub-bins c).In-loop-u).under_top
+
+pub overflow_cast-bins : goal.overflow_cast-bins
+overflow_cast-bins c = omega (arith, (first (goal.at.overflow_cast-bins c).In-loop-u).inside, c.well_formed)
+
+pub offset_bounds-store-run : goal.offset_bounds-store-run
+offset_bounds-store-run c = omega (arith, (first (goal.at.offset_bounds-store-run c).In-loop-u).inside, c.well_formed)
+
+pub bounds-store-run : goal.bounds-store-run
+bounds-store-run c = (first (goal.at.bounds-store-run c).In-loop-u).inside
+
+pub offset_bounds-bins-u : goal.offset_bounds-bins-u
+offset_bounds-bins-u c = omega (arith, below (goal.at.offset_bounds-bins-u c).In-loop-u, at_most (goal.at.offset_bounds-bins-u c).Start)
+
+pub bounds-bins-u : goal.bounds-bins-u
+bounds-bins-u c = omega (arith, in_bins (goal.at.bounds-bins-u c).In-loop-u 3 (omega arith))
+
+pub overflow_add-bins : goal.overflow_add-bins
+overflow_add-bins c = omega (arith, few (goal.at.overflow_add-bins c).In-loop-u)
+
+pub offset_bounds-run-d-in-loop-u-3 : goal.offset_bounds-run-d-in-loop-u-3
+offset_bounds-run-d-in-loop-u-3 c = omega (arith, few (goal.at.offset_bounds-run-d-in-loop-u-3 c).In-loop-u)
+
+pub bounds-run-d-in-loop-u-3 : goal.bounds-run-d-in-loop-u-3
+bounds-run-d-in-loop-u-3 c = (second (goal.at.bounds-run-d-in-loop-u-3 c).In-loop-u).way_in
+
+pub overflow_add-bins-in-loop-u : goal.overflow_add-bins-in-loop-u
+overflow_add-bins-in-loop-u c = omega (arith, (second (goal.at.overflow_add-bins-in-loop-u c).In-loop-u).small)
+
+pub overflow_sub-bins-in-loop-u : goal.overflow_sub-bins-in-loop-u
+overflow_sub-bins-in-loop-u c = (second (goal.at.overflow_sub-bins-in-loop-u c).In-loop-u).under_top
+
+pub overflow_cast-bins-in-loop-u : goal.overflow_cast-bins-in-loop-u
+overflow_cast-bins-in-loop-u c = omega (arith, (second (goal.at.overflow_cast-bins-in-loop-u c).In-loop-u).inside, c.well_formed)
+
+pub offset_bounds-store-top : goal.offset_bounds-store-top
+offset_bounds-store-top c = omega (arith, (second (goal.at.offset_bounds-store-top c).In-loop-u).inside, c.well_formed)
+
+pub bounds-store-top : goal.bounds-store-top
+bounds-store-top c = (second (goal.at.bounds-store-top c).In-loop-u).inside
+
+pub overflow_add-bins-in-loop-u-2 : goal.overflow_add-bins-in-loop-u-2
+overflow_add-bins-in-loop-u-2 c = omega (arith, below (goal.at.overflow_add-bins-in-loop-u-2 c).In-loop-u, at_most (goal.at.overflow_add-bins-in-loop-u-2 c).Start)
+
+pub offset_bounds-bins-u-in-loop-u : goal.offset_bounds-bins-u-in-loop-u
+offset_bounds-bins-u-in-loop-u c = omega (arith, below (goal.at.offset_bounds-bins-u-in-loop-u c).In-loop-u, at_most (goal.at.offset_bounds-bins-u-in-loop-u c).Start)
+
+pub bounds-bins-u-in-loop-u : goal.bounds-bins-u-in-loop-u
+bounds-bins-u-in-loop-u c = simp length-set (in_bins (goal.at.bounds-bins-u-in-loop-u c).In-loop-u 1 (omega arith))
+
+pub overflow_sub-bins-in-loop-u-2 : goal.overflow_sub-bins-in-loop-u-2
+overflow_sub-bins-in-loop-u-2 c = (third (goal.at.overflow_sub-bins-in-loop-u-2 c).In-loop-u).under_top
+
+pub overflow_cast-bins-in-loop-u-2 : goal.overflow_cast-bins-in-loop-u-2
+overflow_cast-bins-in-loop-u-2 c = omega (arith, (third (goal.at.overflow_cast-bins-in-loop-u-2 c).In-loop-u).inside, c.well_formed)
+
+pub offset_bounds-store-top-in-loop-u : goal.offset_bounds-store-top-in-loop-u
+offset_bounds-store-top-in-loop-u c = omega (arith, (third (goal.at.offset_bounds-store-top-in-loop-u c).In-loop-u).inside, c.well_formed)
+
+pub bounds-store-top-in-loop-u : goal.bounds-store-top-in-loop-u
+bounds-store-top-in-loop-u c = (third (goal.at.bounds-store-top-in-loop-u c).In-loop-u).inside
+
+pub overflow_add-bins-in-loop-u-3 : goal.overflow_add-bins-in-loop-u-3
+overflow_add-bins-in-loop-u-3 c = omega (arith, below (goal.at.overflow_add-bins-in-loop-u-3 c).In-loop-u, at_most (goal.at.overflow_add-bins-in-loop-u-3 c).Start)
+
+pub offset_bounds-bins-u-in-loop-u-2 : goal.offset_bounds-bins-u-in-loop-u-2
+offset_bounds-bins-u-in-loop-u-2 c = omega (arith, below (goal.at.offset_bounds-bins-u-in-loop-u-2 c).In-loop-u, at_most (goal.at.offset_bounds-bins-u-in-loop-u-2 c).Start)
+
+pub bounds-bins-u-in-loop-u-2 : goal.bounds-bins-u-in-loop-u-2
+bounds-bins-u-in-loop-u-2 c = simp length-set (in_bins (goal.at.bounds-bins-u-in-loop-u-2 c).In-loop-u 2 (omega arith))
+
+pub overflow_add-u : goal.overflow_add-u
+overflow_add-u c = omega (arith, below (goal.at.overflow_add-u c).In-loop-u, at_most (goal.at.overflow_add-u c).Start)
+
+pub overflow_add-bins-then-u-end : goal.overflow_add-bins-then-u-end
+overflow_add-bins-then-u-end c = omega (arith, few (goal.at.overflow_add-bins-then-u-end c).In-loop-u)
+
+pub offset_bounds-run-d-then-u-end : goal.offset_bounds-run-d-then-u-end
+offset_bounds-run-d-then-u-end c = omega (arith, few (goal.at.offset_bounds-run-d-then-u-end c).In-loop-u)
+
+pub bounds-run-d-then-u-end : goal.bounds-run-d-then-u-end
+bounds-run-d-then-u-end c = (fourth (goal.at.bounds-run-d-then-u-end c).In-loop-u c.if-u-end.true).top_in
+
+pub overflow_add-bins-then-u-end-2 : goal.overflow_add-bins-then-u-end-2
+overflow_add-bins-then-u-end-2 c = omega (arith, few (goal.at.overflow_add-bins-then-u-end-2 c).In-loop-u)
+
+pub offset_bounds-run-d-then-u-end-2 : goal.offset_bounds-run-d-then-u-end-2
+offset_bounds-run-d-then-u-end-2 c = omega (arith, few (goal.at.offset_bounds-run-d-then-u-end-2 c).In-loop-u)
+
+pub bounds-run-d-then-u-end-2 : goal.bounds-run-d-then-u-end-2
+bounds-run-d-then-u-end-2 c = (fourth (goal.at.bounds-run-d-then-u-end-2 c).In-loop-u c.if-u-end.true).way_in
+
+pub overflow_add-bins-then-u-end-3 : goal.overflow_add-bins-then-u-end-3
+overflow_add-bins-then-u-end-3 c = omega (arith, (fourth (goal.at.overflow_add-bins-then-u-end-3 c).In-loop-u c.if-u-end.true).small)
+
+pub overflow_sub-bins-then-u-end : goal.overflow_sub-bins-then-u-end
+overflow_sub-bins-then-u-end c = (fourth (goal.at.overflow_sub-bins-then-u-end c).In-loop-u c.if-u-end.true).under_top
+
+pub overflow_cast-bins-then-u-end : goal.overflow_cast-bins-then-u-end
+overflow_cast-bins-then-u-end c = omega (arith, (fourth (goal.at.overflow_cast-bins-then-u-end c).In-loop-u c.if-u-end.true).inside, c.well_formed)
+
+pub offset_bounds-store-run-then-u-end : goal.offset_bounds-store-run-then-u-end
+offset_bounds-store-run-then-u-end c = omega (arith, (fourth (goal.at.offset_bounds-store-run-then-u-end c).In-loop-u c.if-u-end.true).inside, c.well_formed)
+
+pub bounds-store-run-then-u-end : goal.bounds-store-run-then-u-end
+bounds-store-run-then-u-end c = (fourth (goal.at.bounds-store-run-then-u-end c).In-loop-u c.if-u-end.true).inside
+
+pub overflow_add-bins-then-u-end-4 : goal.overflow_add-bins-then-u-end-4
+overflow_add-bins-then-u-end-4 c = omega (arith, below (goal.at.overflow_add-bins-then-u-end-4 c).In-loop-u, at_most (goal.at.overflow_add-bins-then-u-end-4 c).Start)
+
+pub offset_bounds-bins-u-then-u-end : goal.offset_bounds-bins-u-then-u-end
+offset_bounds-bins-u-then-u-end c = omega (arith, below (goal.at.offset_bounds-bins-u-then-u-end c).In-loop-u, at_most (goal.at.offset_bounds-bins-u-then-u-end c).Start)
+
+pub bounds-bins-u-then-u-end : goal.bounds-bins-u-then-u-end
+bounds-bins-u-then-u-end c = simp length-set (in_bins (goal.at.bounds-bins-u-then-u-end c).In-loop-u 3 (omega arith))
+
+pub overflow_add-u-in-loop-u : goal.overflow_add-u-in-loop-u
+overflow_add-u-in-loop-u c = omega (arith, below (goal.at.overflow_add-u-in-loop-u c).In-loop-u, at_most (goal.at.overflow_add-u-in-loop-u c).Start)
+
+pub loop-u-smaller : goal.loop-u-smaller
+loop-u-smaller c = omega (arith, c.loop-u-test.true)
+
+pub loop-u-preserved : goal.loop-u-preserved
+loop-u-preserved c =
+    let a = c.args in
+    let from : ℕ = 2 ^ (length a.bits.now - 1) in
+    let u : ℕ = c.loop-u.u in
+    let now : min u a.end ≡ u = omega (arith, c.loop-u-test.true) in
+    let room : u + 4 ≤ length a.bins.now = omega (arith, below (goal.at.loop-u-preserved c).In-loop-u, c.requires.bits_in_bounds.1) in
+    let read = subst (λ (x : ℕ). Entries a.block_size a.k a.bits.now a.store.now a.bins.now from x c.loop-u.bins) now c.loop-u.invariant.3 in (
+      omega (arith, c.loop-u.invariant.0),
+      omega (arith, c.loop-u.invariant.1),
+      parts_more a.block_size a.bits.now (set a.parts.now 0 0) from 4 u c.loop-u.parts c.loop-u.invariant.2 (u + 4) _
+          (pow_pos (length a.bits.now - 1)) c.loop-u.invariant.0 (omega (arith, below (goal.at.loop-u-preserved c).In-loop-u)) (omega (arith, in_parts (goal.at.loop-u-preserved c).In-loop-u))
+          (λ w low high z. omega (arith, c.loop-u.invariant.1)) (first (goal.at.loop-u-preserved c).In-loop-u).part,
+      elim c.if-u-end.branch [ then-u-end w ↦ rw w.bins-is
+          (entries_more a.block_size a.k a.bits.now a.store.now a.bins.now from (u + 3) _
+          (entries_three a.block_size a.k a.bits.now a.store.now a.bins.now from u c.loop-u.bins read (u + 3) _ _ _ refl
+          c.loop-u.invariant.0 (omega (arith, room)) (first (goal.at.loop-u-preserved c).In-loop-u).entry (second (goal.at.loop-u-preserved c).In-loop-u).entry (third (goal.at.loop-u-preserved c).In-loop-u).entry)
+          (min (u + 4) a.end) _ (omega (arith, w.if-u-end.true)) (omega (arith, c.loop-u.invariant.0)) (omega (arith, room)) (fourth (goal.at.loop-u-preserved c).In-loop-u w.if-u-end.true).entry) | else-u-end w ↦ rw w.bins-is
+          (entries_three a.block_size a.k a.bits.now a.store.now a.bins.now from u c.loop-u.bins read (min (u + 4) a.end) _ _ _
+          (omega (arith, w.if-u-end.false, within (goal.at.loop-u-preserved c).In-loop-u)) c.loop-u.invariant.0 (omega (arith, room)) (first (goal.at.loop-u-preserved c).In-loop-u).entry (second (goal.at.loop-u-preserved c).In-loop-u).entry (third (goal.at.loop-u-preserved c).In-loop-u).entry) ],
+    )
+
+pub shape_of-parts : goal.shape_of-parts
+shape_of-parts c =
+    c.loop-u.invariant.2.size ∙ length-set c.args.parts.now 0 0
+
+pub shape_of-bins : goal.shape_of-bins
+shape_of-bins c = c.loop-u.invariant.3.size
+
+pub returns : goal.returns
+returns c =
+    let a = c.args in
+    let r = c.loop-u.invariant.3 in record { by_index = λ bit n holds w low high. r.gathered bit n holds w low (omega (arith, c.loop-u-test.false)); spared = λ w h. r.spared w (⊎_elim (λ q. inl q) (λ q. inr (omega arith)) h); by_index_2 = λ w h. c.loop-u.invariant.2.rest w h ∙ get_or-set_other a.parts.now 0 w 0 0 (λ q. omega (arith, pow_pos (length a.bits.now))); }

@@ -1,0 +1,97 @@
+-- `carrying::carry_over` meets its contract: the unfinished bytes are read from their lane, and then cleared there.
+use mathlib.Core.Path.{◌≡◌, refl, sym, ap, ◌∙◌}
+use mathlib.Core.Bool.{false}
+use mathlib.Core.List.{List, [], ◌∷◌, ◌++◌}
+use Prim.Native.Nat.{ℕ, ◌≤◌}
+use native.Mathlib.Omega.{arith}
+use lib.Dec.{eqb}
+use lib.ListN.{length, take, drop, replicate, length-replicate}
+use lib.Seq.{length-take-le}
+use borrow.Author.Tests.{ne_eqb}
+use Rattle.counting.specs.Buffer.{put}
+use Rattle.counting.specs.Sample.{list_of}
+use Rattle.counting.specs.Recording.{stride}
+use Rattle.counting.proofs.Buffers.{put_first}
+use Rattle.counting.proofs.Counts.{length_list}
+use Rattle.sampling.specs.Carrying.{stored_byte, whole_of, left_of, left_bytes, carried_of, carried_words}
+use Rattle.sampling.specs.Earlier.{earlier_refusal}
+use Rattle.sampling.proofs.Lifting.{Lifts, lifts}
+use Rattle.sampling.proofs.carrying.carry_over.Goals.{After-no_bytes-unfinished, Else-refusal-ne0}
+use Rattle.sampling.proofs.carrying.carry_over.Goals as goal
+
+-- ---- past the refusal
+
+none : (e : Else-refusal-ne0) → earlier_refusal e.args.earlier (length e.args.words.now) ≡ 0
+none e = sym e.earlier_refusal-refusal.ensures ∙ e.if-refusal-ne0.false
+
+has : (e : Else-refusal-ne0) → Lifts e.args.earlier (length e.args.words.now)
+has e = lifts e.args.earlier (length e.args.words.now) (none e)
+
+abbrev past : After-no_bytes-unfinished → Else-refusal-ne0
+past d = (goal.at.slice_bounds-unfinished-end d).Else-refusal-ne0
+
+-- there is room for the bytes
+long : (d : After-no_bytes-unfinished) → length d.no_bytes-unfinished.result ≡ 2048
+long d = ap length d.no_bytes-unfinished.ensures ∙ length-replicate {A = ℕ} 2048 0
+
+room : (d : After-no_bytes-unfinished) → left_of d.args.earlier ≤ length d.no_bytes-unfinished.result
+room d = let h = has (past d) in omega (arith, long d, h.few, h.at_most)
+
+part_long : (d : After-no_bytes-unfinished) → length (take (left_of d.args.earlier) d.no_bytes-unfinished.result) ≡ left_of d.args.earlier
+part_long d = length-take-le (left_of d.args.earlier) d.no_bytes-unfinished.result (room d)
+
+pub returns-then-refusal-ne0 : goal.returns-then-refusal-ne0
+unfolding carried_of carried_words
+returns-then-refusal-ne0 c =
+    let a = c.args in
+    let is = c.earlier_refusal-refusal.ensures in
+    let not : eqb (earlier_refusal a.earlier (length a.words.now)) 0 ≡ false = ne_eqb _ _ (λ z. c.if-refusal-ne0.true (is ∙ z)) in
+    record { value = simp not (λ i. record { refusal = is i; sampler = c.no_sampler.ensures i }); words_after = simp not refl; }
+
+pub nonzero_div-blocks-2 : goal.nonzero_div-blocks-2
+nonzero_div-blocks-2 c = omega (arith, (has (goal.at.nonzero_div-blocks-2 c).Else-refusal-ne0).size)
+
+pub nonzero_rem-left : goal.nonzero_rem-left
+nonzero_rem-left c = omega (arith, (has (goal.at.nonzero_rem-left c).Else-refusal-ne0).size)
+
+pub nonzero_div-stride : goal.nonzero_div-stride
+nonzero_div-stride c = omega (arith, (has (goal.at.nonzero_div-stride c).Else-refusal-ne0).size)
+
+pub slice_bounds-unfinished-end : goal.slice_bounds-unfinished-end
+slice_bounds-unfinished-end c = room c
+
+pub slice_bounds-read_bytes-end : goal.slice_bounds-read_bytes-end
+slice_bounds-read_bytes-end c = sym (part_long (goal.at.slice_bounds-read_bytes-end c).After-no_bytes-unfinished)
+
+pub read_bytes-requires : goal.read_bytes-requires
+read_bytes-requires c =
+    let e = past (goal.at.read_bytes-requires c).After-no_bytes-unfinished in
+    let a = c.args in
+    rw (part_long (goal.at.read_bytes-requires c).After-no_bytes-unfinished) (has e).inside
+
+pub overflow_mul-left : goal.overflow_mul-left
+overflow_mul-left c = let h = has (past (goal.at.overflow_mul-left c).After-no_bytes-unfinished) in omega (arith, h.few, h.at_most)
+
+pub clear_bits-requires : goal.clear_bits-requires
+clear_bits-requires c = (has (past (goal.at.clear_bits-requires c).After-no_bytes-unfinished)).inside
+
+pub returns : goal.returns
+unfolding carried_of carried_words left_bytes
+returns c =
+    let e = past (goal.at.returns c).After-no_bytes-unfinished in
+    let a = c.args in
+    let s = a.earlier in
+    let left = left_of s in
+    let none_yet : List ℕ = replicate 2048 0 in
+    let f = stored_byte s.low_first (stride s.block_size (length a.words.now)) a.words.now (whole_of s) in
+    let read : c.read_bytes.new.to ≡ list_of left f = c.read_bytes.ensures ∙ ap (λ (m : ℕ). list_of m f) (part_long (goal.at.returns c).After-no_bytes-unfinished) in
+    let bytes : c.read_bytes.new.to ++ drop left c.no_bytes-unfinished.result ≡ put none_yet 0 (list_of left f) =
+    (λ i. read i ++ drop left (c.no_bytes-unfinished.ensures i))
+    ∙ sym (put_first none_yet (list_of left f) ∙ ap (λ (k : ℕ). list_of left f ++ drop k none_yet) (length_list left f)) in
+    record { value = simp (none e) (λ i. record {
+        refusal = 0;
+        sampler = record {
+          head = record { block_size = s.block_size; words = s.words; blocks = whole_of s; low_first = s.low_first; lengths = left ∷ 0 ∷ 0 ∷ 0 ∷ [] };
+          unfinished = bytes i;
+        };
+      }); words_after = simp (none e) c.clear_bits.ensures; }

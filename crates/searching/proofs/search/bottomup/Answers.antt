@@ -1,0 +1,51 @@
+-- `search::bottomup` meets its contract: past the refusals the winner is found, in whichever way.
+use mathlib.Core.Path.{◌≡◌, sym, ap, ◌∙◌}
+use native.Mathlib.Omega.{arith}
+use lib.ListN.{length}
+use Rattle.counting.proofs.Accepted.{valid_facts}
+use Rattle.searching.specs.Finding.{refused_with}
+use Rattle.searching.specs.Refusal.{bottomup_refusal}
+use Rattle.searching.proofs.Refusing.{BottomupFree, bottomup_free, searchable, search_refused, search_found, store_refused, store_left}
+use Rattle.searching.proofs.search.bottomup.Goals.{Else-refusal-ne0}
+use Rattle.searching.proofs.search.bottomup.Goals as goal
+
+-- ---- past the refusals
+
+none : (e : Else-refusal-ne0) → let a = e.args in
+    bottomup_refusal a.sampler (length a.words.now) a.first a.end a.k (length a.bins.now) (length a.order.now) ≡ 0
+none e = sym e.bottomup_refusal-refusal.ensures ∙ e.if-refusal-ne0.false
+
+free : (e : Else-refusal-ne0) → let a = e.args in
+    BottomupFree a.sampler (length a.words.now) a.first a.end a.k (length a.bins.now) (length a.order.now)
+free e =
+    let a = e.args in
+    bottomup_free a.sampler (length a.words.now) a.first a.end a.k (length a.bins.now) (length a.order.now) (none e)
+
+pub returns-then-refusal-ne0 : goal.returns-then-refusal-ne0
+returns-then-refusal-ne0 c =
+    let a = c.args in
+    let is = c.bottomup_refusal-refusal.ensures in
+    record {
+      search = search_refused _ _ _ _ _ a.k a.bins.now a.order.now c.refused.result (λ z. c.if-refusal-ne0.true (is ∙ z))
+          (c.refused.ensures ∙ ap refused_with is);
+      stored = store_refused _ _ _ _ _ a.k a.store.now (λ z. c.if-refusal-ne0.true (is ∙ z));
+    }
+
+pub stretch_of-stretch-requires : goal.stretch_of-stretch-requires
+stretch_of-stretch-requires c = omega (arith, valid_facts _ (free c).search.usable.valid)
+
+pub search_stretch-finding-requires : goal.search_stretch-finding-requires
+search_stretch-finding-requires c =
+    let x = c.stretch_of-stretch in
+    let a = c.args in
+    record { searchable = searchable a.sampler (length a.words.now) a.first a.end a.k x.result x.ensures (free (goal.at.search_stretch-finding-requires c).Else-refusal-ne0).search; buffer_room = (free (goal.at.search_stretch-finding-requires c).Else-refusal-ne0).room; }
+
+pub returns : goal.returns
+returns c =
+    let x = c.stretch_of-stretch in
+    let found = c.search_stretch-finding in
+    let a = c.args in
+    record {
+      search = search_found _ a.sampler a.words.now a.first a.end a.k x.result a.bins.now a.order.now found.result c.marked.result _ _ x.ensures (none (goal.at.returns c).Else-refusal-ne0) found.ensures.won c.marked.ensures;
+      stored = store_left _ a.sampler a.words.now a.first a.end a.k x.result a.store.now _ x.ensures (none (goal.at.returns c).Else-refusal-ne0) found.ensures.store_after;
+    }
