@@ -50,7 +50,7 @@ extend : {B : ℕ} {low : Bool} {ws : List ℕ} {old : List (List ℕ)} {feeds :
 unfolding fed fed_all answers_from
 extend {B} {low} {ws} {old} {feeds} {answers} {s} {ws'} S [] = rw (append-nil feeds, append-nil answers) S
 extend {B} {low} {ws} {old} {feeds} {answers} {s} {ws'} S (f ∷ more) =
-    let X = extend (next S f (fed_of s (length ws') f.board f.piece) (fed_words s.head s.unfinished ws' f.board f.piece) refl refl) more in
+    let X = extend {feeds = feeds ++ (f ∷ [])} (next S f (fed_of s (length ws') f.board f.piece) (fed_words s.head s.unfinished ws' f.board f.piece) refl refl) more in
     simp append_assoc at X
 
 -- the state after start and all feeds
