@@ -1,0 +1,56 @@
+-- `judgement::judge` meets its contract: the search finds the definition's finding, and the evaluation of it is not refused.
+use mathlib.Core.Path.{◌≡◌, sym, ap, subst, ◌∙◌}
+use mathlib.Core.Bool.{false}
+use mathlib.Core.List.{List}
+use Prim.Native.Nat.{ℕ, ◌≤◌}
+use native.Mathlib.Omega.{arith}
+use lib.ListN.{length, take}
+use lib.Seq.{length-take-le}
+use Rattle.judging.specs.Evaluation.{evaluated_of, positive_in, z_in, score_number}
+use Rattle.judging.specs.Training.{trained_of, trained_order, Trainable}
+use Rattle.judging.specs.declared.evaluation.Evaluated.{Evaluated}
+use Rattle.judging.specs.declared.evaluation.Score.TheVariants.{Z}
+use Rattle.sheet.specs.Judgement.{judged_of}
+use Rattle.sheet.proofs.Accepting.{judged_evaluated}
+use Rattle.sheet.proofs.judgement.judge.Goals.{After-train-finding}
+use Rattle.sheet.proofs.judgement.judge.Goals as goal
+
+-- both buffers keep their length
+bins_long : (d : After-train-finding) → length d.train-finding.new.bins ≡ 256
+bins_long d = omega (arith, d.train-finding.auto.bins, d.bin_room-bins.ensures)
+
+order_long : (d : After-train-finding) → length d.train-finding.new.order ≡ 256
+order_long d = omega (arith, d.train-finding.auto.order, d.bin_room-order.ensures)
+
+pub train-finding-requires : goal.train-finding-requires
+train-finding-requires c =
+    let a = c.args in
+    subst (λ (x : ℕ × ℕ × ℕ). Trainable a.block_size a.k (length a.training.now) x.0 x.1 x.2)
+    (λ i. (c.word_room-words.ensures i, c.bin_room-bins.ensures i, c.bin_room-order.ensures i)) c.requires.trainable
+
+pub slice_bounds-evaluate_histogram-end : goal.slice_bounds-evaluate_histogram-end
+slice_bounds-evaluate_histogram-end c =
+    let m = c.bin_count-m.result in
+    let order : List ℕ = c.train-finding.new.order in
+    let fits : m ≤ length order = omega (arith, c.bin_count-m.ensures, order_long (goal.at.slice_bounds-evaluate_histogram-end c).After-train-finding, c.requires.trainable.room.1) in
+    sym (length-take-le m order fits)
+
+pub returns : goal.returns
+unfolding judged_of
+returns c =
+    let tried = c.evaluate_histogram-evaluated in
+    let counted = c.bin_count-m in
+    let trained = c.train-finding in
+    let a = c.args in
+    let g = c.requires in
+    let f = trained_of a.block_size false a.k a.training.now in
+    let order = trained_order a.block_size false a.k a.training.now in
+    let testing = a.testing.now in
+    let left : List ℕ = trained.new.order in
+    let ordered : take counted.result left ≡ order = ap (λ (m : ℕ). take m left) counted.ensures ∙ trained.ensures.ordered in
+    let told : tried.result ≡ evaluated_of trained.result (take counted.result left) testing (length trained.new.bins) = tried.ensures.value in
+    let is : tried.result ≡ record { refusal = 0; positive = positive_in f order testing; score = Z (z_in f order testing) } =
+    told ∙ (λ i. evaluated_of (trained.ensures.found i) (ordered i) testing (bins_long (goal.at.returns c).After-train-finding i))
+    ∙ judged_evaluated a.block_size a.k a.training.now testing g in
+    let z : c.number_of.result ≡ z_in f order testing = c.number_of.ensures ∙ ap (λ (e : Evaluated). score_number e.score) is in
+    λ i. record { finding = trained.ensures.found i; positive = (is i).positive; z = z i }

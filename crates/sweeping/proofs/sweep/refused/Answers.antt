@@ -1,0 +1,5 @@
+-- `sweep::refused` meets its contract.
+use Rattle.sweeping.proofs.sweep.refused.Goals as goal
+
+pub returns : goal.returns
+returns c = rw (c.none.ensures, c.none-2.ensures)
