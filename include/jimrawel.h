@@ -1,6 +1,6 @@
 /* jimrawel.h: the bias search for recordings of hardware random generators.
 
-   Link target/staticlib/libexports.a, which `rt staticlib exports` writes (x86-64 Linux).
+   Link crates/exports/out/libexports.a, which `rt lib` writes in crates/exports (x86-64 Linux).
    Every function is proved against a contract (crates/exports/src/lib.rt); the notes below say it in words.
 
    Rules for all calls

@@ -1,6 +1,6 @@
 #!/usr/bin/env python3
 """Writes the table of small binomials into crates/subsets/src/pascal.rt, between the lines of the constant: C(m, r) at 4 m + r, for m from 0 to 512 and r
-from 0 to 3, as Python's math.comb has them. A second run changes nothing."""
+from 0 to 3, as Python's math.comb has them, one to a line: `rt fmt` in crates/subsets then lays them out, and after that nothing has changed."""
 import math
 import pathlib
 import re

@@ -30,7 +30,7 @@ use Rattle.searching.specs.Claim.{BestOf}
 use Rattle.searching.specs.Refusal.{bottomup_refusal}
 use Rattle.searching.specs.declared.finding.Finding.{Finding}
 use Rattle.judging.specs.Permutation.{each_once, Permutation}
-use Rattle.judging.specs.Check.{chosen, limit_refusal, length_refusal, shape_refusal, scratch_refusal, division_refusal, order_refusal}
+use Rattle.judging.specs.Check.{limit_refusal, length_refusal, shape_refusal, scratch_refusal, division_refusal, order_refusal}
 use Rattle.judging.specs.Evaluation.{counts_in, positive_of, positive_in, z_in, blocks_refusal, early_evaluation_refusal, evaluation_refusal}
 use Rattle.judging.specs.Agreement.{FindingsAgree, AllAgree}
 use Rattle.judging.proofs.Once.{once_permutes}

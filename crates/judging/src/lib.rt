@@ -1,4 +1,6 @@
 // Judging: whether a finding is sound and how it does on other data, the parts of a recording, and the plan of a sweep.
+#![tactic(auto)]
+
 pub mod check;
 pub mod evaluation;
 mod permutation;

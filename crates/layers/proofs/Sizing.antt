@@ -14,7 +14,7 @@ use Rattle.subsets.specs.Subsets.{numbers_from}
 use Rattle.subsets.specs.Choose.{choose, up_to, choose_up_to}
 use Rattle.subsets.proofs.Ranking.{ranks}
 use Rattle.subsets.proofs.Visiting.{numbers_subset}
-use Rattle.layers.specs.Store.{size_to, widest, store_size, store_suffices, Roomy, SufficesRoomy, store_needed, NeededSuffices}
+use Rattle.layers.specs.Store.{size_to, widest, store_size, store_suffices, SufficesRoomy, store_needed, NeededSuffices}
 
 -- ---- from one width to the next
 

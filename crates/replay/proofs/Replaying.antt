@@ -10,8 +10,7 @@ use Rattle.counting.specs.Block.{valid_size}
 use Rattle.counting.specs.Recording.{stride, blocks_in, recorded_bit}
 use Rattle.counting.specs.Sample.{onward, counts_of, AgreeBelow}
 use Rattle.counting.specs.Words.{stored_bit}
-use Rattle.sampling.specs.Boards.{Feed, boards_of, recording, refusals_of}
-use Rattle.sampling.specs.Earlier.{earlier_answers}
+use Rattle.sampling.specs.Boards.{Feed, boards_of, recording}
 use Rattle.sampling.specs.Feeding.{fed_of, fed_words}
 use Rattle.sampling.specs.Recorded.{State, started, fed, fed_all, answers_from, sampler_of, HoldsRecording}
 use Rattle.sampling.specs.Sampler.{started_of, started_words, blocks_of}

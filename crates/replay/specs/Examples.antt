@@ -1,5 +1,5 @@
 -- Worked examples of the pieces and of what a replay refuses.
-use Rattle.std.specs.Prelude.{◌≡◌, List, [], ◌∷◌, ℕ, replicate}
+use Rattle.std.specs.Prelude.{◌≡◌, [], ◌∷◌, replicate}
 use Rattle.sampling.specs.Boards.{on_board, refusals_of}
 use Rattle.replay.specs.Pieces.{cut, refused_in}
 use Rattle.replay.specs.Replay.{replay_refusal}

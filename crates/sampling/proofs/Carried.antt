@@ -2,36 +2,36 @@
 use mathlib.Core.Path.{◌≡◌, refl, sym, ap, ap₂, subst, ◌∙◌}
 use mathlib.Core.Bool.{Bool, true, false, cond}
 use mathlib.Core.List.{List, [], ◌∷◌, ◌++◌, append-nil}
-use Prim.Native.Nat.{ℕ, zero, suc, ◌+◌, ◌-◌, ◌*◌, ◌/◌, ◌%◌, ◌^◌, ◌≤◌, ◌<◌, zero-le}
+use Prim.Native.Nat.{ℕ, suc, ◌+◌, ◌-◌, ◌*◌, ◌/◌, ◌%◌, ◌^◌, ◌≤◌, ◌<◌, zero-le}
 use native.Mathlib.Omega.{arith}
 use native.Mathlib.Decide.{dec_lt, ℕ_discrete}
-use native.Mathlib.Nat.{mod-eq_of_lt, div-add-mod', mul-le-mul_right, suc-mul, zero-div, zero-mod, zero-mul, add-zero}
+use native.Mathlib.Nat.{mod-eq_of_lt, div-add-mod', mul-le-mul_right, suc-mul, zero-div, zero-mod}
 use lib.Dec.{eqb}
-use lib.ListN.{length, get_or, drop, replicate, length-replicate, length-drop, get_or-replicate, get_or-append, get_or-eq_default}
+use lib.ListN.{length, get_or, replicate, length-replicate, get_or-replicate, get_or-append}
 use lib.Seq.{get_or-drop, ext_get_or}
 use borrow.Author.Tests.{eq-eqb, le-leb}
 use Rattle.counting.specs.Block.{bit_at, place_in, bin_of, valid_size}
 use Rattle.counting.specs.Buffer.{put}
-use Rattle.counting.specs.Recording.{block_bytes, stride, capacity, capacity_bytes, blocks_in}
+use Rattle.counting.specs.Recording.{block_bytes, stride, capacity_bytes, blocks_in}
 use Rattle.counting.specs.Sample.{list_of}
 use Rattle.counting.specs.Words.{stored_bit}
 use Rattle.counting.proofs.Accepted.{Valid, valid_facts}
 use Rattle.counting.proofs.Buffers.{put_none}
 use Rattle.counting.proofs.Counts.{bin_ext, mod_step, length_list, get_d_list}
-use Rattle.sampling.specs.Boards.{Boards, Feed, changed, carried, boards_of, refusals_of}
+use Rattle.sampling.specs.Boards.{changed, carried}
 use Rattle.sampling.specs.Carrying.{BlockIn, clear_bits, stored_byte, whole_of, left_of, left_bytes, carried_of, carried_words}
 use Rattle.sampling.specs.Cut.{whole, rest}
-use Rattle.sampling.specs.Earlier.{earlier_recording, earlier_refusal, EarlierState, earlier_started, earlier_fed_all}
-use Rattle.sampling.specs.Recorded.{State, started, carried_over, kept_bytes, sampler_of, Bytes, AllRecorded, AllCarried}
+use Rattle.sampling.specs.Earlier.{earlier_recording, earlier_refusal, earlier_started, earlier_fed_all}
+use Rattle.sampling.specs.Recorded.{started, carried_over, kept_bytes, sampler_of, Bytes, AllRecorded, AllCarried}
 use Rattle.sampling.specs.Sampler.{started_of, started_words}
 use Rattle.sampling.specs.declared.carrying.Earlier.{Earlier}
 use Rattle.sampling.proofs.Clearing.{length_clears, stored_kept, stored_cleared}
-use Rattle.sampling.proofs.Cutting.{length_whole, length_rest, rest_is, rest_short, rest_none, whole_none, whole_rest, blocks_whole}
-use Rattle.sampling.proofs.Earlier.{earlier_of, Told, earlier_told}
+use Rattle.sampling.proofs.Cutting.{length_whole, length_rest, rest_is, rest_short, whole_rest, blocks_whole}
+use Rattle.sampling.proofs.Earlier.{earlier_of, earlier_told}
 use Rattle.sampling.proofs.Holding.{held_bit, held_is, held_past}
 use Rattle.sampling.proofs.Lifting.{eight, nth, Lifts, lifts}
 use Rattle.sampling.proofs.Recorded.{Holds, holds_all, holds_recording}
-use Rattle.sampling.proofs.Tails.{changed_same, changed_other, length_kept, kept_ext, put_kept}
+use Rattle.sampling.proofs.Tails.{changed_same, changed_other, kept_ext, put_kept}
 use Rattle.sampling.proofs.Usable.{room_blocks}
 
 -- ---- a byte from its bits

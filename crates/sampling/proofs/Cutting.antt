@@ -1,9 +1,9 @@
 -- Bytes cut into whole blocks and a rest: what comes behind is cut from the rest on (`whole_append`, `rest_append`), and both put together are the bytes.
 use mathlib.Core.Path.{◌≡◌, refl, sym, ap, ap₂, ◌∙◌}
 use mathlib.Core.List.{List, [], ◌∷◌, ◌++◌, append_assoc, append-nil}
-use Prim.Native.Nat.{ℕ, zero, suc, ◌+◌, ◌-◌, ◌*◌, ◌/◌, ◌%◌, ◌≤◌, ◌<◌}
+use Prim.Native.Nat.{ℕ, ◌+◌, ◌*◌, ◌/◌, ◌%◌, ◌≤◌, ◌<◌}
 use native.Mathlib.Omega.{arith}
-use native.Mathlib.Nat.{mul-le-mul_right, add-mul, zero-mul, zero-div, div-mul-le_self, lt-div-mul-add, mul-add-div_right, mul-div_cancel, mod-eq-sub-div-mul}
+use native.Mathlib.Nat.{add-mul, zero-mul, zero-div, div-mul-le_self, lt-div-mul-add, mul-add-div_right, mul-div_cancel, mod-eq-sub-div-mul}
 use lib.ListN.{length, take, drop, length-append, length-drop, take-append-drop}
 use lib.Seq.{take-append-le, drop-append-le, take-append-add, drop-append-add, drop-drop, take-add, drop-nil, length-take-le}
 use Rattle.counting.specs.Recording.{block_bytes, blocks_in}

@@ -1,24 +1,23 @@
 -- Under the earlier rule the words hold the plain recording after start and any feeds, an unfinished block's bits too (theorem `all_earlier_recorded`).
 use mathlib.Core.Path.{◌≡◌, refl, sym, ap, ◌∙◌}
-use mathlib.Core.Bool.{Bool, true, false, cond}
+use mathlib.Core.Bool.{Bool, true}
 use mathlib.Core.List.{List, [], ◌∷◌, ◌++◌}
 use Prim.Native.Nat.{ℕ, ◌+◌, ◌*◌, ◌/◌, ◌%◌, ◌≤◌, ◌<◌, max, zero-le}
 use native.Mathlib.Omega.{arith}
 use native.Mathlib.Decide.{dec_lt}
 use native.Mathlib.Nat.{le_trans, le_refl, min-le_left}
-use lib.Dec.{eqb}
 use lib.ListN.{length, length-append, length-replicate}
 use lib.Seq.{take-length}
 use borrow.Author.Tests.{eq-eqb, le-leb, lt-leb}
 use Rattle.counting.specs.Block.{valid_size}
-use Rattle.counting.specs.Recording.{block_bytes, stride, capacity_bytes, recorded_bit}
+use Rattle.counting.specs.Recording.{block_bytes, stride, capacity_bytes}
 use Rattle.counting.specs.Words.{stored_bit}
 use Rattle.counting.proofs.Accepted.{valid_facts}
 use Rattle.sampling.specs.Earlier.{piece_refusal, held_after, held_from, piece_refusals, earlier_recording, earlier_refusal, earlier_feed_refusal, EarlierState, earlier_started, earlier_fed, earlier_fed_all, earlier_answers, AllEarlierRecorded}
 use Rattle.sampling.specs.Putting.{put_bytes, arriving_bit}
 use Rattle.sampling.specs.declared.carrying.Earlier.{Earlier}
 use Rattle.sampling.proofs.Filling.{length_put_bytes, stored_after}
-use Rattle.sampling.proofs.Holding.{held_bit, held_is, held_more, held_past, held_recorded, cleared_bit}
+use Rattle.sampling.proofs.Holding.{held_bit, held_more, held_past, held_recorded, cleared_bit}
 use Rattle.sampling.proofs.Usable.{room_words, room_bytes, room_blocks}
 
 abbrev pub earlier_of : ℕ → Bool → ℕ → ℕ → Earlier

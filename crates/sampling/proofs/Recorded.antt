@@ -1,18 +1,18 @@
 -- After a start or a carry-over and any feeds the sampler is the recording's and the words hold its blocks (`holds_all`), and what one feed sets (theorem `feed_fills`).
 use mathlib.Core.Path.{◌≡◌, refl, sym, ap, ap₂, subst, ◌∙◌}
-use mathlib.Core.Bool.{Bool, true, false, cond, ◌&&◌}
-use mathlib.Core.List.{List, [], ◌∷◌, ◌++◌, append_assoc}
+use mathlib.Core.Bool.{Bool, true, false, cond}
+use mathlib.Core.List.{List, [], ◌∷◌, ◌++◌}
 use Prim.Native.Nat.{ℕ, zero, suc, ◌+◌, ◌-◌, ◌*◌, ◌/◌, ◌%◌, ◌≤◌, ◌<◌, max}
 use native.Mathlib.Omega.{arith}
 use native.Mathlib.Decide.{dec_lt, ℕ_discrete}
 use native.Mathlib.Nat.{le_trans, le_refl, min-le_left, mod-lt, div-lt_iff_lt-mul, div-add-mod', le-div_iff_mul-le, div-mul-le_self, add-mul, mul-le-mul_right}
-use lib.Dec.{leb, ltb, eqb}
+use lib.Dec.{leb, eqb}
 use lib.ListN.{length, get_or, take, drop, set, replicate, length-append}
 use lib.Seq.{take-length}
-use borrow.Author.Tests.{eq-eqb, eqb-true, eqb-false, ne_eqb, le-leb, lt-leb, lt-ltb, leb-true}
+use borrow.Author.Tests.{eq-eqb, eqb-true, eqb-false, ne_eqb, le-leb, lt-leb, lt-ltb}
 use Rattle.counting.specs.Block.{bit_at, valid_size}
 use Rattle.counting.specs.Buffer.{put}
-use Rattle.counting.specs.Recording.{block_bytes, stride, capacity, blocks_in, recorded_bit}
+use Rattle.counting.specs.Recording.{block_bytes, stride, capacity, blocks_in}
 use Rattle.counting.specs.Words.{stored_bit}
 use Rattle.counting.proofs.Accepted.{Valid, valid_facts}
 use Rattle.sampling.specs.Boards.{Boards, Feed, changed, arriving, board_refusal, taken, boards_after, boards_from, refusals_from}
@@ -20,13 +20,13 @@ use Rattle.sampling.specs.Cut.{whole, rest}
 use Rattle.sampling.specs.Feeding.{together, completed, feed_refusal, fed_head, arriving_on, left_on, fed_unfinished, fed_of, fed_words, FeedFills}
 use Rattle.sampling.specs.Putting.{put_bytes, arriving_bit}
 use Rattle.sampling.specs.Recorded.{State, fed, fed_all, answers_from, kept_bytes, sampler_of, HoldsRecording}
-use Rattle.sampling.specs.Sampler.{pending, tail_of, each_short, sampler_refusal}
+use Rattle.sampling.specs.Sampler.{pending, tail_of, sampler_refusal}
 use Rattle.sampling.specs.declared.sampler.Head.{Head}
 use Rattle.sampling.specs.declared.sampler.Sampler.{Sampler}
 use Rattle.sampling.proofs.Cutting.{length_whole, length_rest, rest_short, blocks_behind, blocks_whole}
 use Rattle.sampling.proofs.Filling.{length_put_bytes, stored_after, past_after}
 use Rattle.sampling.proofs.Holding.{held_bit, held_more, held_past, held_recorded}
-use Rattle.sampling.proofs.Tails.{changed_same, changed_other, lengths_of, length_on, length_set_on, length_kept, tail_kept, put_kept}
+use Rattle.sampling.proofs.Tails.{changed_same, changed_other, lengths_of, length_on, length_set_on, tail_kept, put_kept}
 use Rattle.sampling.proofs.Usable.{Accepted, accepted, room_words, room_lanes}
 
 -- ---- theorem 1: what one feed does to each bit of each word

@@ -2,13 +2,13 @@
 -- `all_reversed`).
 use mathlib.Core.Path.{◌≡◌, refl, sym, ap, ap₂, ◌∙◌}
 use mathlib.Core.Bool.{Bool, true, false, cond}
-use mathlib.Core.List.{List, [], ◌∷◌, ◌++◌, map}
+use mathlib.Core.List.{List, [], ◌∷◌, ◌++◌}
 use Prim.Native.Nat.{ℕ, zero, suc, ◌+◌, ◌-◌, ◌*◌, ◌/◌, ◌%◌, ◌≤◌, ◌<◌}
 use native.Mathlib.Omega.{arith}
 use native.Mathlib.Nat.{le_refl}
 use lib.Dec.{leb, eqb}
-use lib.ListN.{length, get_or, take, drop, set, replicate, length-map}
-use Rattle.counting.specs.Block.{valid_size, bit_at, place_in, bin_of}
+use lib.ListN.{length, get_or, take, drop, replicate, length-map}
+use Rattle.counting.specs.Block.{bit_at, place_in, bin_of}
 use Rattle.counting.specs.Buffer.{put}
 use Rattle.counting.specs.Recording.{block_bytes, stride, capacity, capacity_bytes, blocks_in}
 use Rattle.counting.specs.Reversed.{reversed, reversed_bytes}
@@ -17,7 +17,7 @@ use Rattle.counting.specs.Words.{stored_bit}
 use Rattle.counting.proofs.Lanes.{bit_lt}
 use Rattle.counting.proofs.Reversing.{bin_bit, reversed_zero, turned, byte_at, take_reversed, drop_reversed, append_reversed}
 use Rattle.sampling.specs.Boards.{Boards, Feed, changed, arriving, board_refusal, taken, boards_after, boards_from, refusals_from, carried}
-use Rattle.sampling.specs.Carrying.{clear_bits, stored_byte, whole_of, left_of, left_bytes, carried_of, carried_words}
+use Rattle.sampling.specs.Carrying.{stored_byte, whole_of, left_of, left_bytes, carried_of, carried_words}
 use Rattle.sampling.specs.Cut.{whole, rest}
 use Rattle.sampling.specs.Earlier.{piece_refusal, held_after, held_from, piece_refusals, earlier_recording, earlier_refusal, earlier_feed_refusal, EarlierState, earlier_started, earlier_fed, earlier_fed_all}
 use Rattle.sampling.specs.Feeding.{feed_refusal, fed_head, arriving_on, left_on, fed_unfinished, fed_of, fed_words}
@@ -27,7 +27,6 @@ use Rattle.sampling.specs.Reversed.{reversed_pieces, reversed_feeds, RecordingsR
 use Rattle.sampling.specs.Sampler.{pending, tail_of, sampler_refusal}
 use Rattle.sampling.specs.declared.carrying.Earlier.{Earlier}
 use Rattle.sampling.specs.declared.sampler.Head.{Head}
-use Rattle.sampling.specs.declared.sampler.Sampler.{Sampler}
 use Rattle.sampling.proofs.Carried.{free as carry-free}
 use Rattle.sampling.proofs.Earlier.{earlier_told}
 use Rattle.sampling.proofs.Lifting.{eight}

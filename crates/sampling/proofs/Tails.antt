@@ -9,7 +9,6 @@ use lib.ListN.{length, get_or, take, drop, set, replicate, length-append, length
 use lib.Seq.{length-take-le, get_or-take, get_or-drop, get_or-append-add, ext_get_or}
 use borrow.Author.Tests.{eq-eqb, ne_eqb}
 use Rattle.counting.specs.Buffer.{put}
-use Rattle.counting.specs.Sample.{list_of}
 use Rattle.counting.proofs.Buffers.{length_put}
 use Rattle.counting.proofs.Counts.{length_list, get_d_list}
 use Rattle.sampling.specs.Boards.{changed}

@@ -1,19 +1,17 @@
 -- What a feed that is not refused does, as code does it: the piece is kept where it completes no block, and else its blocks are put in and what is past them is kept.
 use mathlib.Core.Path.{◌≡◌, refl, sym, ap, ap₂, ◌∙◌}
-use mathlib.Core.Bool.{Bool}
-use mathlib.Core.List.{List, [], ◌∷◌, ◌++◌, append-nil}
-use Prim.Native.Nat.{ℕ, ◌+◌, ◌-◌, ◌*◌, ◌/◌, ◌%◌, ◌≤◌, ◌<◌}
+use mathlib.Core.List.{List, ◌++◌, append-nil}
+use Prim.Native.Nat.{ℕ, ◌+◌, ◌-◌, ◌*◌, ◌/◌, ◌≤◌, ◌<◌}
 use native.Mathlib.Omega.{arith}
-use native.Mathlib.Nat.{le_trans, add-mul, add-zero, mul-le-mul_right, div-mul-le_self}
-use lib.Dec.{eqb}
-use lib.ListN.{length, take, drop, replicate, length-append, length-take, length-drop, take-append-drop}
+use native.Mathlib.Nat.{add-mul, mul-le-mul_right}
+use lib.ListN.{length, take, drop, replicate, length-append, length-drop, take-append-drop}
 use lib.Seq.{take-add, length-take-le}
 use Rattle.counting.specs.Buffer.{put}
-use Rattle.counting.specs.Recording.{block_bytes, stride, capacity, blocks_in}
+use Rattle.counting.specs.Recording.{block_bytes, stride, blocks_in}
 use Rattle.counting.proofs.Accepted.{Valid, valid_facts}
 use Rattle.counting.proofs.Buffers.{put_put}
 use Rattle.sampling.specs.Cut.{whole, rest}
-use Rattle.sampling.specs.Feeding.{together, completed, Completes, feed_refusal, arriving_on, left_on, fed_unfinished, fed_words}
+use Rattle.sampling.specs.Feeding.{completed, Completes, feed_refusal, left_on, fed_unfinished, fed_words}
 use Rattle.sampling.specs.Putting.{put_bytes}
 use Rattle.sampling.specs.Sampler.{pending, tail_of}
 use Rattle.sampling.specs.declared.sampler.Head.{Head}

@@ -2,15 +2,15 @@
 -- what the earlier rule claimed (`sole_claims`).
 use mathlib.Core.Path.{◌≡◌, refl, sym, ap, subst, ◌∙◌}
 use mathlib.Core.Bool.{Bool, true, false}
-use mathlib.Core.List.{List, [], ◌++◌}
-use mathlib.Core.Logic.{◌⊎◌, inl, inr}
-use Prim.Native.Nat.{ℕ, ◌-◌, ◌^◌, ◌≤◌, ◌<◌}
+use mathlib.Core.List.{List, ◌++◌}
+use mathlib.Core.Logic.{◌⊎◌}
+use Prim.Native.Nat.{ℕ, ◌-◌, ◌≤◌, ◌<◌}
 use native.Mathlib.Omega.{arith}
 use lib.Ieee.{lt}
 use lib.ListN.{length, take, drop}
 use Rattle.counting.specs.Recording.{blocks_in, recorded_bit}
 use Rattle.counting.specs.Sample.{onward, counts_of, AgreeBelow}
-use Rattle.sampling.specs.Boards.{Feed, recording, accepted_of, on_board}
+use Rattle.sampling.specs.Boards.{Feed, recording, on_board}
 use Rattle.sampling.specs.Earlier.{earlier_recording}
 use Rattle.sampling.specs.Kept.{Alike, sole_bytes}
 use Rattle.sampling.specs.Sampler.{blocks_of}
@@ -23,7 +23,7 @@ use Rattle.ranking.specs.Ranking.{score_of}
 use Rattle.subsets.specs.Best.{best_subset}
 use Rattle.subsets.specs.Subsets.{padded}
 use Rattle.searching.specs.Boards.{BoardsCounted, SameBytesFound, SamePiecesFound, SoleClaims}
-use Rattle.searching.specs.Claim.{Acquisition, BestOf, SearchClaim}
+use Rattle.searching.specs.Claim.{Acquisition, SearchClaim}
 use Rattle.searching.specs.Finding.{winner_of, finding_of}
 use Rattle.searching.specs.Refusal.{bottomup_refusal}
 use Rattle.searching.specs.Search.{BottomupSearch, store_after}

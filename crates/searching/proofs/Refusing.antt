@@ -1,8 +1,8 @@
 -- The refusals of a search: what a refusal of 0 tells, and what is promised where there is one and where there is none.
 use mathlib.Core.Path.{◌≡◌, refl, ap, subst, ◌∙◌}
-use mathlib.Core.Bool.{Bool, true, false, cond}
+use mathlib.Core.Bool.{Bool, cond}
 use mathlib.Core.List.{List}
-use Prim.Native.Nat.{ℕ, zero, suc, ◌/◌, ◌^◌, ◌≤◌, ◌<◌}
+use Prim.Native.Nat.{ℕ, zero, suc, ◌/◌, ◌^◌, ◌≤◌}
 use native.Mathlib.Nat.{le_trans, min-le_left, min-le_right, div-mul-le_self, mul_comm}
 use native.Mathlib.Omega.{arith}
 use lib.Dec.{leb}

@@ -4,8 +4,7 @@ use mathlib.Core.Path.{◌≡◌, refl, sym, ap, subst, ◌∙◌}
 use mathlib.Core.Bool.{Bool, true, false}
 use mathlib.Core.List.{List}
 use Prim.Native.Nat.{ℕ, zero, suc, ◌+◌, ◌-◌}
-use lib.ListN.{length, replicate}
-use Rattle.counting.specs.Block.{valid_size}
+use lib.ListN.{length}
 use Rattle.counting.specs.Recording.{recorded_bit}
 use Rattle.counting.specs.Reversed.{reversed_bytes}
 use Rattle.counting.specs.Sample.{onward}
@@ -22,7 +21,7 @@ use Rattle.sampling.proofs.Reversing.{recordings_reversed, all_reversed}
 use Rattle.searching.specs.Claim.{Best}
 use Rattle.searching.specs.Refusal.{search_refusal, bottomup_refusal}
 use Rattle.searching.specs.Search.{answer_of, StretchSearch, BottomupSearch}
-use Rattle.searching.specs.Reversed.{BestReversed, unmarked, SameUnmarked, LowAsHigh, LowIsHighReversed}
+use Rattle.searching.specs.Reversed.{BestReversed, unmarked, SameUnmarked, LowIsHighReversed}
 use Rattle.searching.specs.declared.finding.Searched.{Searched}
 use Rattle.searching.proofs.Claiming.{stands, claims}
 

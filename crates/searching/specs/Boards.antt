@@ -1,5 +1,5 @@
 -- What a search of all blocks finds in the recording of four boards, told by the boards; and what a user of one board has.
-use Rattle.std.specs.Prelude.{◌≡◌, Bool, List, [], ◌++◌, ℕ, ◌^◌, length, take}
+use Rattle.std.specs.Prelude.{◌≡◌, Bool, List, ◌++◌, ℕ, ◌^◌, length, take}
 use Rattle.counting.specs.Recording.{blocks_in}
 use Rattle.sampling.specs.Boards.{Feed, accepted_of, on_board, refusals_from, carried}
 use Rattle.sampling.specs.Earlier.{piece_refusals, earlier_recording}

@@ -1,7 +1,7 @@
 -- The step from a subset to the next, from its last bit leftwards.
 use mathlib.Core.Path.{◌≡◌, refl, sym, ap, subst, ◌∙◌}
 use mathlib.Core.Logic.{◌⊎◌, inl, inr}
-use Prim.Native.Nat.{ℕ, zero, suc, ◌+◌, ◌-◌, ◌≤◌, ◌<◌}
+use Prim.Native.Nat.{ℕ, zero, suc, ◌-◌, ◌≤◌, ◌<◌}
 use native.Mathlib.Nat.{le_trans, eq-or-lt_of_le, suc_inj}
 use native.Mathlib.Numerals.{sub-one}
 use native.Mathlib.Omega.{arith}

@@ -8,7 +8,7 @@ use mathlib.Core.List.Memᴰ
 use mathlib.Core.List.{List, [], ◌∷◌, ◌++◌, map, Memᴰ}
 use lib.Dec.{T}
 use lib.ListN.{length, get_or}
-use Rattle.subsets.specs.Subsets.{Rising, Subset, lex_lt, subsets_from, subsets, Sorted, Lists, SubsetsListed}
+use Rattle.subsets.specs.Subsets.{Rising, Subset, lex_lt, subsets_from, Sorted, SubsetsListed}
 use Rattle.subsets.proofs.Lex.{lex_head, lex_tail, lex_irrefl}
 
 -- ---- a rising list

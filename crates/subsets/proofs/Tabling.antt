@@ -1,7 +1,7 @@
 -- Pascal's rule of a table: one test that antt computes over all entries, and the laws that turn it into the rule and into binomials.
 use mathlib.Core.Path.{◌≡◌, refl, sym, ap, ap₂, subst, ◌∙◌}
 use mathlib.Core.Logic.{◌⊎◌, inl, inr}
-use mathlib.Core.Bool.{Bool, true, false, ◌&&◌, cond}
+use mathlib.Core.Bool.{Bool, true, false, ◌&&◌}
 use mathlib.Core.List.{List, [], ◌∷◌}
 use Prim.Native.Nat.{ℕ, zero, suc, ◌+◌, ◌-◌, ◌*◌, ◌/◌, ◌%◌, ◌^◌, ◌≤◌, ◌<◌}
 use native.Mathlib.Nat.{mul-suc, mul-le-mul, pow-suc}
@@ -11,7 +11,7 @@ use lib.ListN.{length, get_or}
 use lib.Seq.{ext_get_or}
 use borrow.Author.Tests.{le-leb, lt-leb}
 use Rattle.subsets.specs.Choose.{choose, choose_up_to}
-use Rattle.subsets.specs.Pascal.{entry, Pascal, tabled, coefficient_in, Tabulates, TableAgrees}
+use Rattle.subsets.specs.Pascal.{entry, Pascal, coefficient_in, TableAgrees}
 use Rattle.subsets.proofs.Lex.{and_l, and_r}
 use Rattle.subsets.proofs.Choosing.{le_or_lt, choose_step, exact}
 

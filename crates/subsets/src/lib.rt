@@ -1,4 +1,6 @@
 // The subsets of a block's bits: the step from one to the next, their number, and the rank of each.
+#![tactic(auto)]
+
 pub mod bits;
 pub mod choose;
 pub mod pascal;

@@ -38,7 +38,10 @@ feed_lent-taken-requires c = long (goal.at.feed_lent-taken-requires c).Else-unre
 pub write_taken-requires : goal.write_taken-requires
 write_taken-requires c =
     let a = c.args in
-    record { numbers_value = (feed_read _ _ (none (goal.at.write_taken-requires c).Else-unread-ne0)).0; board_bound = λ z. taken_named c.read_head.result (length a.words.now) a.board (length a.piece.now) (ap (λ (t : Taken). t.refusal) (sym c.feed_lent-taken.ensures.value) ∙ z); }
+    record {
+      numbers_value = (feed_read _ _ (none (goal.at.write_taken-requires c).Else-unread-ne0)).0;
+      board_bound = λ z. taken_named c.read_head.result (length a.words.now) a.board (length a.piece.now) (ap (λ (t : Taken). t.refusal) (sym c.feed_lent-taken.ensures.value) ∙ z);
+    }
 
 pub returns : goal.returns
 returns c =

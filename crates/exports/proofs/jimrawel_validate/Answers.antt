@@ -18,4 +18,7 @@ validate_lent-requires c = finding_room _ (none (goal.at.validate_lent-requires 
 
 pub returns : goal.returns
 returns c =
-    record { made = λ m. (c.validate_lent.ensures.value, (c.validate_lent.ensures.scratch_after)); refused = λ h. absurd (h (none (goal.at.returns c).Else-unread-ne0)) }
+    record {
+      made = λ m. (c.validate_lent.ensures.value, (c.validate_lent.ensures.scratch_after));
+      refused = λ h. absurd (h (none (goal.at.returns c).Else-unread-ne0));
+    }

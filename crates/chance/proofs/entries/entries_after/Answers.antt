@@ -40,7 +40,10 @@ loop-t-init c =
 
 pub next_row-requires : goal.next_row-requires
 next_row-requires c =
-    record { m_in_bounds = (omega (arith, room (goal.at.next_row-requires c).At-loop-t), c.requires.1, c.requires.2, ap (λ (x : ℕ). x - c.args.d) c.bin_count.ensures); row = row_there c.loop-t.t c.args.k c.args.d c.loop-t.from c.loop-t.to (begun (goal.at.next_row-requires c).At-loop-t) c.loop-t.scratch c.requires.2 c.loop-t.invariant.2 c.loop-t.invariant.3; }
+    record {
+      m_in_bounds = (omega (arith, room (goal.at.next_row-requires c).At-loop-t), c.requires.1, c.requires.2, ap (λ (x : ℕ). x - c.args.d) c.bin_count.ensures);
+      row = row_there c.loop-t.t c.args.k c.args.d c.loop-t.from c.loop-t.to (begun (goal.at.next_row-requires c).At-loop-t) c.loop-t.scratch c.requires.2 c.loop-t.invariant.2 c.loop-t.invariant.3;
+    }
 
 pub overflow_add-to : goal.overflow_add-to
 overflow_add-to c =
@@ -59,14 +62,13 @@ before_zeros-to-requires c =
     (c.past_zeros-from.ensures.1, omega (arith, more (goal.at.before_zeros-to-requires c).In-loop-t, as_long (goal.at.before_zeros-to-requires c).After-next_row))
 
 pub loop-t-preserved : goal.loop-t-preserved
-loop-t-preserved c =
-    (
-      omega arith,
-      as_long (goal.at.loop-t-preserved c).After-next_row ∙ c.loop-t.invariant.1,
-      next (goal.at.loop-t-preserved c).After-next_row,
-      ends_more c.loop-t.t c.args.k c.args.d c.loop-t.from c.loop-t.to c.past_zeros-from.result c.before_zeros-to.result (begun (goal.at.loop-t-preserved c).At-loop-t) (made (goal.at.loop-t-preserved c).After-next_row) (next (goal.at.loop-t-preserved c).After-next_row) c.loop-t.invariant.3
-          c.past_zeros-from.ensures.0 c.before_zeros-to.ensures.0 c.before_zeros-to.ensures.1 c.past_zeros-from.ensures.2 c.before_zeros-to.ensures.2,
-    )
+loop-t-preserved c = (
+  omega arith,
+  as_long (goal.at.loop-t-preserved c).After-next_row ∙ c.loop-t.invariant.1,
+  next (goal.at.loop-t-preserved c).After-next_row,
+  ends_more c.loop-t.t c.args.k c.args.d c.loop-t.from c.loop-t.to c.past_zeros-from.result c.before_zeros-to.result (begun (goal.at.loop-t-preserved c).At-loop-t) (made (goal.at.loop-t-preserved c).After-next_row) (next (goal.at.loop-t-preserved c).After-next_row) c.loop-t.invariant.3
+      c.past_zeros-from.ensures.0 c.before_zeros-to.ensures.0 c.before_zeros-to.ensures.1 c.past_zeros-from.ensures.2 c.before_zeros-to.ensures.2,
+)
 
 pub shape_of-scratch : goal.shape_of-scratch
 shape_of-scratch c = c.loop-t.invariant.1 ∙ length-set c.args.scratch.now 0 1099511627776

@@ -68,7 +68,12 @@ overflow_add-end-2 t c =
 
 pub add_few-requires : goal.add_few-requires
 add_few-requires t c =
-    record { in_bounds = (c.requires.in_bounds.0, omega (arith, (sized t (goal.at.add_few-requires t c).Start).0, c.if-last-lt2.true), c.requires.in_bounds.2); rows_in = c.requires.rows_in; lanes_in = c.requires.lanes_in; count_room = c.requires.count_room; }
+    record {
+      in_bounds = (c.requires.in_bounds.0, omega (arith, (sized t (goal.at.add_few-requires t c).Start).0, c.if-last-lt2.true), c.requires.in_bounds.2);
+      rows_in = c.requires.rows_in;
+      lanes_in = c.requires.lanes_in;
+      count_room = c.requires.count_room;
+    }
 
 pub returns-then-last-lt2 : goal.returns-then-last-lt2
 returns-then-last-lt2 t c = c.add_few.ensures

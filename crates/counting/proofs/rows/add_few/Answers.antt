@@ -55,7 +55,10 @@ pub add_two-requires : goal.add_two-requires
 add_two-requires c =
     let one : length c.args.bits.now ≡ 1 = c.if-bits-eq1.true in
     let long = part_size (goal.at.add_two-requires c).Start 0 (omega arith) in
-    record { n_bound = (omega (arith, c.requires.lanes_in), omega (arith, c.requires.lanes_in), omega (arith, c.requires.lanes_in)); bins_len = (power (goal.at.add_two-requires c).Start 1 one, c.requires.count_room); }
+    record {
+      n_bound = (omega (arith, c.requires.lanes_in), omega (arith, c.requires.lanes_in), omega (arith, c.requires.lanes_in));
+      bins_len = (power (goal.at.add_two-requires c).Start 1 one, c.requires.count_room);
+    }
 
 pub returns-then-bits-eq1 : goal.returns-then-bits-eq1
 returns-then-bits-eq1 c =
@@ -109,7 +112,10 @@ add_four-requires c =
     let k : length c.args.bits.now ≡ 2 = omega (arith, c.requires.in_bounds) in
     let high = part_size (goal.at.add_four-requires c).Start 1 (omega arith) in
     let low = part_size (goal.at.add_four-requires c).Start 0 (omega arith) in
-    record { n_bound = (omega (arith, c.requires.lanes_in), omega (arith, c.requires.lanes_in), omega arith, omega (arith, c.requires.lanes_in)); bins_len = (power (goal.at.add_four-requires c).Start 2 k, c.requires.count_room); }
+    record {
+      n_bound = (omega (arith, c.requires.lanes_in), omega (arith, c.requires.lanes_in), omega arith, omega (arith, c.requires.lanes_in));
+      bins_len = (power (goal.at.add_four-requires c).Start 2 k, c.requires.count_room);
+    }
 
 pub returns : goal.returns
 returns c =

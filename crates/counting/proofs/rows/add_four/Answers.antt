@@ -80,4 +80,7 @@ returns c =
     let l = c.args.bins.now in
     let lower' = c.count_both-lower in
     let upper = c.count_both-upper in
-    let all = all_four l lower'.result.without lower'.result.with upper.result.without upper.result.with c.requires.bins_len.0 in record { parted = (omega (arith, all.0, lower'.ensures.without_value.0), omega (arith, all.1, lower'.ensures.with_value.0)); parted_2 = (omega (arith, all.2, upper.ensures.without_value.0), omega (arith, all.3, upper.ensures.with_value.0)); }
+    let all = all_four l lower'.result.without lower'.result.with upper.result.without upper.result.with c.requires.bins_len.0 in record {
+      parted = (omega (arith, all.0, lower'.ensures.without_value.0), omega (arith, all.1, lower'.ensures.with_value.0));
+      parted_2 = (omega (arith, all.2, upper.ensures.without_value.0), omega (arith, all.3, upper.ensures.with_value.0));
+    }

@@ -5,4 +5,4 @@ use Rattle.counting.proofs.Stretches.{marked_ones}
 use Rattle.counting.proofs.rows.all_marked.Goals as goal
 
 pub returns : goal.returns
-returns c = record { value = refl; marked_from = λ e h. marked_ones 512 e (omega arith); }
+returns c = record { value = refl; marked_from = λ e h. marked_ones 512 e (omega arith) }

@@ -26,7 +26,7 @@ marks_size d = d.loop-start.invariant.3 ∙ d.unmark.auto.acc
 
 pub unmark-requires : goal.unmark-requires
 unmark-requires c =
-    record { skip_bound = (omega arith, c.requires.mark_room.0.1); marked_from = c.requires.mark_room.1; }
+    record { skip_bound = (omega arith, c.requires.mark_room.0.1); marked_from = c.requires.mark_room.1 }
 
 pub loop-start-init : goal.loop-start-init
 unfolding count_in
@@ -58,8 +58,13 @@ add_bins-requires c =
     let at = c.loop-start in
     let is = c.chunk_at-chunk.ensures in
     let below = c.loop-start-test.true in
-    rw is (record { in_bounds = (c.requires.in_bounds.0, c.requires.in_bounds.1, size (goal.at.add_bins-requires c).At-loop-start ∙ c.requires.in_bounds.2); rows_in = c.requires.rows_in; lanes_in = ((chunk_in x c.requires.within at.start at.invariant.0 below).0, omega (arith, marks_size (goal.at.add_bins-requires c).At-loop-start, c.requires.mark_room.0.0, at.invariant.1.0)); count_room = chunk_room x c.requires.within at.start at.invariant.0 below at.bins
-              (λ v h. omega (arith, at.invariant.5 v h, count_le (stretch_bit x a.words.now) (span_before x at.start) a.bits.now v)); })
+    rw is (record {
+      in_bounds = (c.requires.in_bounds.0, c.requires.in_bounds.1, size (goal.at.add_bins-requires c).At-loop-start ∙ c.requires.in_bounds.2);
+      rows_in = c.requires.rows_in;
+      lanes_in = ((chunk_in x c.requires.within at.start at.invariant.0 below).0, omega (arith, marks_size (goal.at.add_bins-requires c).At-loop-start, c.requires.mark_room.0.0, at.invariant.1.0));
+      count_room = chunk_room x c.requires.within at.start at.invariant.0 below at.bins
+          (λ v h. omega (arith, at.invariant.5 v h, count_le (stretch_bit x a.words.now) (span_before x at.start) a.bits.now v));
+    })
 
 pub bounds-acc-0 : goal.bounds-acc-0
 bounds-acc-0 c =

@@ -5,4 +5,4 @@ use Rattle.counting.proofs.Stretches.{marked_ones}
 use Rattle.counting.proofs.rows.few_marked.Goals as goal
 
 pub returns : goal.returns
-returns c = record { value = refl; marked_from = λ e h. marked_ones 64 e (omega arith); }
+returns c = record { value = refl; marked_from = λ e h. marked_ones 64 e (omega arith) }

@@ -10,7 +10,6 @@ use Rattle.counting.specs.declared.chunk.Chunk.{Chunk}
 use Rattle.counting.proofs.Counts.{count_le}
 use Rattle.counting.proofs.Stretches.{span_before, chunk_in, chunk_more, chunk_room, span_none, span_all}
 use native.Mathlib.Omega.{arith}
-use Rattle.counting.proofs.rows.multi_eval.Invariants.{Extended}
 use Rattle.counting.proofs.rows.multi_eval.Goals.{At-loop-start}
 use Rattle.counting.proofs.rows.multi_eval.Goals as goal
 
@@ -40,8 +39,13 @@ extend-requires c =
     let is = c.chunk_at.ensures in
     let below = c.loop-start-test.true in
     let e : length at.counts ≡ length a.counts.now = size (goal.at.extend-requires c).At-loop-start in
-    rw is (record { rows_in = c.requires.rows_in; chunk_in = chunk_in x c.requires.within at.start at.invariant.0 below; counts_bound = rw e c.requires.counts_bound; count_room = chunk_room x c.requires.within at.start at.invariant.0 below at.counts
-              (λ j h. let all = a.bits.now ++ ((a.next + j) ∷ []) in omega (arith, at.invariant.3 j h, count_le (stretch_bit x a.words.now) (span_before x at.start) all (2 ^ length all - 1))); })
+    rw is (record {
+      rows_in = c.requires.rows_in;
+      chunk_in = chunk_in x c.requires.within at.start at.invariant.0 below;
+      counts_bound = rw e c.requires.counts_bound;
+      count_room = chunk_room x c.requires.within at.start at.invariant.0 below at.counts
+          (λ j h. let all = a.bits.now ++ ((a.next + j) ∷ []) in omega (arith, at.invariant.3 j h, count_le (stretch_bit x a.words.now) (span_before x at.start) all (2 ^ length all - 1)));
+    })
 
 pub loop-start-preserved : goal.loop-start-preserved
 loop-start-preserved c =

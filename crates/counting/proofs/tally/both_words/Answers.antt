@@ -35,4 +35,4 @@ pub returns : goal.returns
 returns c =
     let at = c.loop-t in
     let e : at.t ≡ c.args.m = omega arith in
-    record { without_value = rw (← e) at.invariant.1; with_value = rw (← e) at.invariant.2; }
+    record { without_value = rw (← e) at.invariant.1; with_value = rw (← e) at.invariant.2 }

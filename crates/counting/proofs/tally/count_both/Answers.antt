@@ -29,7 +29,8 @@ returns-then-rest-gt0 c =
     let a = c.args in
     let w = c.word-w in
     let words = word_with (word_at a.acc.now) a.high.now a.flip in
-    record { without_value = (
+    record {
+      without_value = (
         omega (
           arith,
           lanes_part (both (goal.at.returns-then-rest-gt0 c).After-shared_slice_known-3-1 18446744073709551615) (small (goal.at.returns-then-rest-gt0 c).After-shared_slice_known-3-1 18446744073709551615 (lit< tt)) a.n,
@@ -38,7 +39,8 @@ returns-then-rest-gt0 c =
           ap (λ (x : ℕ). ones (x % 2 ^ (a.n % 64))) (anded_word words a.low.now 18446744073709551615 (a.n / 64) _ _ w.ensures c.anded.ensures),
         ),
         omega arith,
-      ); with_value = (
+      );
+      with_value = (
         omega (
           arith,
           lanes_part (both (goal.at.returns-then-rest-gt0 c).After-shared_slice_known-3-1 0) (small (goal.at.returns-then-rest-gt0 c).After-shared_slice_known-3-1 0 (lit< tt)) a.n,
@@ -47,8 +49,12 @@ returns-then-rest-gt0 c =
           ap (λ (x : ℕ). ones (x % 2 ^ (a.n % 64))) (anded_word words a.low.now 0 (a.n / 64) _ _ w.ensures c.anded-then-rest-gt0.ensures),
         ),
         omega arith,
-      ); }
+      );
+    }
 
 pub returns-else-rest-gt0 : goal.returns-else-rest-gt0
 returns-else-rest-gt0 c =
-    let a = c.args in record { without_value = (c.both_words-sums.ensures.without_value.0 ∙ sym (lanes_whole (both (goal.at.returns-else-rest-gt0 c).After-shared_slice_known-3-1 18446744073709551615) (small (goal.at.returns-else-rest-gt0 c).After-shared_slice_known-3-1 18446744073709551615 (lit< tt)) a.n c.if-rest-gt0.false), omega arith); with_value = (c.both_words-sums.ensures.with_value.0 ∙ sym (lanes_whole (both (goal.at.returns-else-rest-gt0 c).After-shared_slice_known-3-1 0) (small (goal.at.returns-else-rest-gt0 c).After-shared_slice_known-3-1 0 (lit< tt)) a.n c.if-rest-gt0.false), omega arith); }
+    let a = c.args in record {
+      without_value = (c.both_words-sums.ensures.without_value.0 ∙ sym (lanes_whole (both (goal.at.returns-else-rest-gt0 c).After-shared_slice_known-3-1 18446744073709551615) (small (goal.at.returns-else-rest-gt0 c).After-shared_slice_known-3-1 18446744073709551615 (lit< tt)) a.n c.if-rest-gt0.false), omega arith);
+      with_value = (c.both_words-sums.ensures.with_value.0 ∙ sym (lanes_whole (both (goal.at.returns-else-rest-gt0 c).After-shared_slice_known-3-1 0) (small (goal.at.returns-else-rest-gt0 c).After-shared_slice_known-3-1 0 (lit< tt)) a.n c.if-rest-gt0.false), omega arith);
+    }

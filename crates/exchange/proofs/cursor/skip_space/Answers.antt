@@ -18,7 +18,10 @@ returns-then-not-is_space c =
     let s = c.args.s.now in
     let i : ℕ = c.loop-i.i in
     let less : i < length s = omega arith in
-    record { within = omega arith; left = skip_here s i less (sym c.is_space.ensures ∙ c.if-not-is_space.true) ∙ c.loop-i.invariant.1 }
+    record {
+      within = omega arith;
+      left = skip_here s i less (sym c.is_space.ensures ∙ c.if-not-is_space.true) ∙ c.loop-i.invariant.1;
+    }
 
 pub overflow_add-i : goal.overflow_add-i
 overflow_add-i c = omega arith

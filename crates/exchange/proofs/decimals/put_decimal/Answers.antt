@@ -22,10 +22,16 @@ eight t =
     omega (arith, (let four' : let n = t.args.n in length (decimal n) ≡ length (decimal (n / 10000)) + 4 = length_long _ (omega arith) (omega arith) in four'), length_long (n / 10000) low high, ap (λ (m : ℕ). length (decimal m)) same)
 
 pub put_short-to-requires : goal.put_short-to-requires
-put_short-to-requires c = record { n_bound = omega arith; n_in_bounds = omega (arith, four (goal.at.put_short-to-requires c).Else-n-lt10000); }
+put_short-to-requires c = record {
+  n_bound = omega arith;
+  n_in_bounds = omega (arith, four (goal.at.put_short-to-requires c).Else-n-lt10000);
+}
 
 pub put_four-requires : goal.put_four-requires
-put_four-requires c = record { n_bound = omega arith; at_in_bounds = omega (arith, four (goal.at.put_four-requires c).Else-n-lt10000); }
+put_four-requires c = record {
+  n_bound = omega arith;
+  at_in_bounds = omega (arith, four (goal.at.put_four-requires c).Else-n-lt10000);
+}
 
 pub overflow_add-result : goal.overflow_add-result
 overflow_add-result c = omega (arith, four (goal.at.overflow_add-result c).Else-n-lt10000)
@@ -34,19 +40,31 @@ pub returns-then-n-lt100000000 : goal.returns-then-n-lt100000000
 returns-then-n-lt100000000 c =
     let whole = (let a = c.args in
     let room : c.put_short-to.result ≤ length a.out.now = omega (arith, four (goal.at.returns-then-n-lt100000000 c).Else-n-lt10000) in
-    long_more a.out.now a.at a.n _ _ _ (omega arith) (omega arith) (c.put_short-to.ensures.value, (c.put_short-to.ensures.out_after)) c.put_four.ensures room) in record { value = whole.0; out_after = whole.1; }
+    long_more a.out.now a.at a.n _ _ _ (omega arith) (omega arith) (c.put_short-to.ensures.value, (c.put_short-to.ensures.out_after)) c.put_four.ensures room) in record {
+      value = whole.0;
+      out_after = whole.1;
+    }
 
 pub put_short-to-requires-2 : goal.put_short-to-requires-2
-put_short-to-requires-2 c = record { n_bound = omega arith; n_in_bounds = omega (arith, eight (goal.at.put_short-to-requires-2 c).Else-n-lt100000000); }
+put_short-to-requires-2 c = record {
+  n_bound = omega arith;
+  n_in_bounds = omega (arith, eight (goal.at.put_short-to-requires-2 c).Else-n-lt100000000);
+}
 
 pub put_four-requires-2 : goal.put_four-requires-2
-put_four-requires-2 c = record { n_bound = omega arith; at_in_bounds = omega (arith, eight (goal.at.put_four-requires-2 c).Else-n-lt100000000); }
+put_four-requires-2 c = record {
+  n_bound = omega arith;
+  at_in_bounds = omega (arith, eight (goal.at.put_four-requires-2 c).Else-n-lt100000000);
+}
 
 pub overflow_add-to : goal.overflow_add-to
 overflow_add-to c = omega (arith, eight (goal.at.overflow_add-to c).Else-n-lt100000000)
 
 pub put_four-requires-3 : goal.put_four-requires-3
-put_four-requires-3 c = record { n_bound = omega arith; at_in_bounds = omega (arith, eight (goal.at.put_four-requires-3 c).Else-n-lt100000000); }
+put_four-requires-3 c = record {
+  n_bound = omega arith;
+  at_in_bounds = omega (arith, eight (goal.at.put_four-requires-3 c).Else-n-lt100000000);
+}
 
 pub overflow_add-result-2 : goal.overflow_add-result-2
 overflow_add-result-2 c = omega (arith, eight (goal.at.overflow_add-result-2 c).Else-n-lt100000000)

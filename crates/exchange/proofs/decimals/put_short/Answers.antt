@@ -35,12 +35,18 @@ returns-then-n-lt10 c =
     short_one a.out.now a.at a.n _ (omega arith) room c.digit.ensures) in record { value = whole.0; out_after = whole.1; }
 
 pub put_two-requires : goal.put_two-requires
-put_two-requires c = record { n_bound = omega arith; at_in_bounds = omega (arith, two (goal.at.put_two-requires c).Then-n-lt100); }
+put_two-requires c = record {
+  n_bound = omega arith;
+  at_in_bounds = omega (arith, two (goal.at.put_two-requires c).Then-n-lt100);
+}
 
 pub returns-then-n-lt100 : goal.returns-then-n-lt100
 returns-then-n-lt100 c =
     let whole = (let a = c.args in
-    short_two a.out.now a.at a.n _ (omega arith) (omega arith) c.put_two.ensures) in record { value = whole.0; out_after = whole.1; }
+    short_two a.out.now a.at a.n _ (omega arith) (omega arith) c.put_two.ensures) in record {
+      value = whole.0;
+      out_after = whole.1;
+    }
 
 pub digit-requires-then-n-lt1000 : goal.digit-requires-then-n-lt1000
 digit-requires-then-n-lt1000 c = omega arith
@@ -49,7 +55,10 @@ pub bounds-out-at-then-n-lt1000 : goal.bounds-out-at-then-n-lt1000
 bounds-out-at-then-n-lt1000 c = omega (arith, three (goal.at.bounds-out-at-then-n-lt1000 c).Then-n-lt1000)
 
 pub put_two-requires-then-n-lt1000 : goal.put_two-requires-then-n-lt1000
-put_two-requires-then-n-lt1000 c = record { n_bound = omega arith; at_in_bounds = simp length-set (omega (arith, three (goal.at.put_two-requires-then-n-lt1000 c).Then-n-lt1000)); }
+put_two-requires-then-n-lt1000 c = record {
+  n_bound = omega arith;
+  at_in_bounds = simp length-set (omega (arith, three (goal.at.put_two-requires-then-n-lt1000 c).Then-n-lt1000));
+}
 
 pub shape_of-out-then-n-lt1000 : goal.shape_of-out-then-n-lt1000
 shape_of-out-then-n-lt1000 c = c.put_two-then-n-lt1000.auto.out ∙ simp length-set
@@ -58,12 +67,21 @@ pub returns-then-n-lt1000 : goal.returns-then-n-lt1000
 returns-then-n-lt1000 c =
     let whole = (let a = c.args in
     let room : a.at < length a.out.now = omega (arith, three (goal.at.returns-then-n-lt1000 c).Then-n-lt1000) in
-    short_three a.out.now a.at a.n _ _ (omega arith) (omega arith) room c.digit-then-n-lt1000.ensures c.put_two-then-n-lt1000.ensures) in record { value = whole.0; out_after = whole.1; }
+    short_three a.out.now a.at a.n _ _ (omega arith) (omega arith) room c.digit-then-n-lt1000.ensures c.put_two-then-n-lt1000.ensures) in record {
+      value = whole.0;
+      out_after = whole.1;
+    }
 
 pub put_four-requires : goal.put_four-requires
-put_four-requires c = record { n_bound = omega arith; at_in_bounds = omega (arith, four (goal.at.put_four-requires c).Else-n-lt1000); }
+put_four-requires c = record {
+  n_bound = omega arith;
+  at_in_bounds = omega (arith, four (goal.at.put_four-requires c).Else-n-lt1000);
+}
 
 pub returns : goal.returns
 returns c =
     let whole = (let a = c.args in
-    short_four a.out.now a.at a.n _ (omega arith) (omega arith) c.put_four.ensures) in record { value = whole.0; out_after = whole.1; }
+    short_four a.out.now a.at a.n _ (omega arith) (omega arith) c.put_four.ensures) in record {
+      value = whole.0;
+      out_after = whole.1;
+    }

@@ -29,7 +29,11 @@ pub returns : goal.returns
 returns c =
     let ok : c.read_array-bits.result.ok ≡ true = not-false _ c.if-not-bits.false in
     let kept = array_kept (bytes (goal.at.returns c).Start) c.args.at c.read_array-bits.result c.requires.at_in_bounds c.read_array-bits.ensures ok in
-    members_are (bytes (goal.at.returns c).Start) _ (record { ok = true; found = with_bits c.args.found c.read_array-bits.result; at = c.read_array-bits.result.at })
+    members_are (bytes (goal.at.returns c).Start) _ (record {
+      ok = true;
+      found = with_bits c.args.found c.read_array-bits.result;
+      at = c.read_array-bits.result.at;
+    })
     (bits_first (bytes (goal.at.returns c).Start) c.args.found (rest (goal.at.returns c).Start) c.if-before.false c.read_array-bits.result _ kept.0 ok) refl
     (record { bits = λ e. kept.1; indices = c.requires.sized.indices })
     kept.2

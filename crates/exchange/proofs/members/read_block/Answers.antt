@@ -29,7 +29,11 @@ pub returns : goal.returns
 returns c =
     let ok : c.read_word-block_size.result.ok ≡ true = not-false _ c.if-not-block_size.false in
     let kept = word_got (bytes (goal.at.returns c).Start) _ c.read_word-block_size.result c.read_word-block_size.ensures ok in
-    members_are (bytes (goal.at.returns c).Start) _ (record { ok = true; found = with_block c.args.found c.read_word-block_size.result; at = c.read_word-block_size.result.at })
+    members_are (bytes (goal.at.returns c).Start) _ (record {
+      ok = true;
+      found = with_block c.args.found c.read_word-block_size.result;
+      at = c.read_word-block_size.result.at;
+    })
     (block_first (bytes (goal.at.returns c).Start) c.args.found (rest (goal.at.returns c).Start) c.if-before.false c.read_word-block_size.result _ kept.0 ok) refl
     (record { bits = c.requires.sized.bits; indices = c.requires.sized.indices })
     kept.1

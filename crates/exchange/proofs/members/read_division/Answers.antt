@@ -29,7 +29,11 @@ pub returns : goal.returns
 returns c =
     let ok : c.read_word-division.result.ok ≡ true = not-false _ c.if-not-division.false in
     let kept = word_got (bytes (goal.at.returns c).Start) _ c.read_word-division.result c.read_word-division.ensures ok in
-    members_are (bytes (goal.at.returns c).Start) _ (record { ok = true; found = with_division c.args.found c.read_word-division.result; at = c.read_word-division.result.at })
+    members_are (bytes (goal.at.returns c).Start) _ (record {
+      ok = true;
+      found = with_division c.args.found c.read_word-division.result;
+      at = c.read_word-division.result.at;
+    })
     (division_first (bytes (goal.at.returns c).Start) c.args.found (rest (goal.at.returns c).Start) c.if-before.false c.read_word-division.result _ kept.0 ok) refl
     (record { bits = c.requires.sized.bits; indices = c.requires.sized.indices })
     kept.1

@@ -29,7 +29,11 @@ pub returns : goal.returns
 returns c =
     let ok : c.read_array-indices.result.ok ≡ true = not-false _ c.if-not-indices.false in
     let kept = array_kept (bytes (goal.at.returns c).Start) c.args.at c.read_array-indices.result c.requires.at_in_bounds c.read_array-indices.ensures ok in
-    members_are (bytes (goal.at.returns c).Start) _ (record { ok = true; found = with_indices c.args.found c.read_array-indices.result; at = c.read_array-indices.result.at })
+    members_are (bytes (goal.at.returns c).Start) _ (record {
+      ok = true;
+      found = with_indices c.args.found c.read_array-indices.result;
+      at = c.read_array-indices.result.at;
+    })
     (indices_first (bytes (goal.at.returns c).Start) c.args.found (rest (goal.at.returns c).Start) c.if-before.false c.read_array-indices.result _ kept.0 ok) refl
     (record { bits = c.requires.sized.bits; indices = λ e. kept.1 })
     kept.2

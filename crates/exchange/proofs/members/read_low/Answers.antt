@@ -29,7 +29,11 @@ pub returns : goal.returns
 returns c =
     let ok : c.read_truth-low_first.result.ok ≡ true = not-false _ c.if-not-low_first.false in
     let kept = truth_got (bytes (goal.at.returns c).Start) _ c.read_truth-low_first.result c.read_truth-low_first.ensures ok in
-    members_are (bytes (goal.at.returns c).Start) _ (record { ok = true; found = with_low c.args.found c.read_truth-low_first.result; at = c.read_truth-low_first.result.at })
+    members_are (bytes (goal.at.returns c).Start) _ (record {
+      ok = true;
+      found = with_low c.args.found c.read_truth-low_first.result;
+      at = c.read_truth-low_first.result.at;
+    })
     (low_first (bytes (goal.at.returns c).Start) c.args.found (rest (goal.at.returns c).Start) c.if-before.false c.read_truth-low_first.result _ kept.0 ok) refl
     (record { bits = c.requires.sized.bits; indices = c.requires.sized.indices })
     kept.1

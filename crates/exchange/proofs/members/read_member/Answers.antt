@@ -15,7 +15,10 @@ returns-then-not-key c =
 
 pub read_value-requires : goal.read_value-requires
 read_value-requires c =
-    record { at_in_bounds = (key_got c.args.s.now (read_key (drop c.args.at c.args.s.now)) c.read_key-key.result c.read_key-key.ensures (not-false _ c.if-not-key.false)).1; sized = c.requires.sized; }
+    record {
+      at_in_bounds = (key_got c.args.s.now (read_key (drop c.args.at c.args.s.now)) c.read_key-key.result c.read_key-key.ensures (not-false _ c.if-not-key.false)).1;
+      sized = c.requires.sized;
+    }
 
 pub returns : goal.returns
 returns c =

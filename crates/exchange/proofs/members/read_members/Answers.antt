@@ -79,7 +79,11 @@ token-close-requires c = (read (goal.at.token-close-requires c).Else-not-member)
 pub returns-then-close : goal.returns-then-close
 returns-then-close c =
     let m = place_got (bytes (goal.at.returns-then-close c).At-loop-member) _ c.token-close.result c.token-close.ensures c.if-close.true in
-    members_are (bytes (goal.at.returns-then-close c).At-loop-member) _ (record { ok = true; found = c.read_member-member.result.found; at = c.token-close.result.at })
+    members_are (bytes (goal.at.returns-then-close c).At-loop-member) _ (record {
+      ok = true;
+      found = c.read_member-member.result.found;
+      at = c.token-close.result.at;
+    })
     (led (goal.at.returns-then-close c).At-loop-member _ (members_close (so_far (goal.at.returns-then-close c).At-loop-member) (left (goal.at.returns-then-close c).At-loop-member) (now_found (goal.at.returns-then-close c).Else-not-member) (behind (goal.at.returns-then-close c).Else-not-member) (read (goal.at.returns-then-close c).Else-not-member).0 _ m.0)) refl (read (goal.at.returns-then-close c).Else-not-member).1 m.1
 
 pub token-comma-requires : goal.token-comma-requires

@@ -28,7 +28,11 @@ returns-then-not-score c =
 pub returns : goal.returns
 returns c =
     let kept = place_got (bytes (goal.at.returns c).Start) _ c.skip_score-score.result c.skip_score-score.ensures (not-false _ c.if-not-score.false) in
-    members_are (bytes (goal.at.returns c).Start) _ (record { ok = true; found = with_score c.args.found; at = c.skip_score-score.result.at })
+    members_are (bytes (goal.at.returns c).Start) _ (record {
+      ok = true;
+      found = with_score c.args.found;
+      at = c.skip_score-score.result.at;
+    })
     (score_first (bytes (goal.at.returns c).Start) c.args.found (rest (goal.at.returns c).Start) c.if-found.false _ kept.0) refl
     (record { bits = c.requires.sized.bits; indices = c.requires.sized.indices })
     kept.1

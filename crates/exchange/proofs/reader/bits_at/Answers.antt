@@ -23,7 +23,10 @@ slice_bounds-store_entries-end c = room_for (numbers (goal.at.slice_bounds-store
 
 pub store_entries-requires : goal.store_entries-requires
 store_entries-requires c =
-    record { from_in_bounds = c.requires.within; to_in_bounds = omega (arith, count (goal.at.store_entries-requires c).After-at_most_twenty-count, room_for (numbers (goal.at.store_entries-requires c).After-at_most_twenty-count) (numbers (goal.at.store_entries-requires c).After-at_most_twenty-count) c.at_most_twenty-count.result (count (goal.at.store_entries-requires c).After-at_most_twenty-count)); }
+    record {
+      from_in_bounds = c.requires.within;
+      to_in_bounds = omega (arith, count (goal.at.store_entries-requires c).After-at_most_twenty-count, room_for (numbers (goal.at.store_entries-requires c).After-at_most_twenty-count) (numbers (goal.at.store_entries-requires c).After-at_most_twenty-count) c.at_most_twenty-count.result (count (goal.at.store_entries-requires c).After-at_most_twenty-count));
+    }
 
 pub returns : goal.returns
 returns c =

@@ -92,7 +92,10 @@ slice_bounds-store_entries-end-2 c = sym (length-take-le _ (order (goal.at.slice
 pub store_entries-requires : goal.store_entries-requires
 store_entries-requires c =
     let counts = (says (goal.at.store_entries-requires c).After-indices-1).2 in
-    record { from_in_bounds = counts.within; to_in_bounds = omega (arith, counts.counted, length-take-le (found (goal.at.store_entries-requires c).After-read_text-read).indices.count (order (goal.at.store_entries-requires c).After-read_text-read) (room (goal.at.store_entries-requires c).Else-order-count)); }
+    record {
+      from_in_bounds = counts.within;
+      to_in_bounds = omega (arith, counts.counted, length-take-le (found (goal.at.store_entries-requires c).After-read_text-read).indices.count (order (goal.at.store_entries-requires c).After-read_text-read) (room (goal.at.store_entries-requires c).Else-order-count));
+    }
 
 pub finding_at-finding-requires : goal.finding_at-finding-requires
 finding_at-finding-requires c = (says (goal.at.finding_at-finding-requires c).After-indices-1).1
@@ -107,4 +110,7 @@ returns-then-refusal-ne0 c =
 
 pub returns : goal.returns
 returns c =
-    checked (goal.at.returns c).After-validate-refusal _ (with_none c.validate-refusal.result (said_finding (said (goal.at.returns c).After-read_text-read)) _ c.if-refusal-ne0.false (λ j. record { refusal = 0; finding = finding (goal.at.returns c).After-validate-refusal j }))
+    checked (goal.at.returns c).After-validate-refusal _ (with_none c.validate-refusal.result (said_finding (said (goal.at.returns c).After-read_text-read)) _ c.if-refusal-ne0.false (λ j. record {
+      refusal = 0;
+      finding = finding (goal.at.returns c).After-validate-refusal j;
+    }))

@@ -17,7 +17,10 @@ returns-then-at-s c =
     record { within = search rules; left = minus_end _ _ all }
 
 pub returns-then-s-at-eq45 : goal.returns-then-s-at-eq45
-returns-then-s-at-eq45 c = record { within = omega (arith, less (goal.at.returns-then-s-at-eq45 c).Else-at-s); left = minus_here _ _ (less (goal.at.returns-then-s-at-eq45 c).Else-at-s) c.if-s-at-eq45.true }
+returns-then-s-at-eq45 c = record {
+  within = omega (arith, less (goal.at.returns-then-s-at-eq45 c).Else-at-s);
+  left = minus_here _ _ (less (goal.at.returns-then-s-at-eq45 c).Else-at-s) c.if-s-at-eq45.true;
+}
 
 pub returns : goal.returns
 returns c = record { within = search rules; left = minus_other _ _ (less (goal.at.returns c).Else-at-s) c.if-s-at-eq45.false }

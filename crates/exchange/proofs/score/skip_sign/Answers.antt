@@ -20,12 +20,21 @@ returns-then-at-s c =
 pub returns-then-s-at-eq43 : goal.returns-then-s-at-eq43
 returns-then-s-at-eq43 c =
     let plus : get_or c.args.s.now c.args.at 0 ≡ 0x2b = omega (arith, c.if-s-at-eq43.true) in
-    record { within = omega (arith, less (goal.at.returns-then-s-at-eq43 c).Else-at-s); left = sign_plus _ _ (less (goal.at.returns-then-s-at-eq43 c).Else-at-s) plus }
+    record {
+      within = omega (arith, less (goal.at.returns-then-s-at-eq43 c).Else-at-s);
+      left = sign_plus _ _ (less (goal.at.returns-then-s-at-eq43 c).Else-at-s) plus;
+    }
 
 pub returns-then-s-at-eq45 : goal.returns-then-s-at-eq45
 returns-then-s-at-eq45 c =
-    record { within = omega (arith, less (goal.at.returns-then-s-at-eq45 c).Else-at-s); left = sign_minus _ _ (less (goal.at.returns-then-s-at-eq45 c).Else-at-s) c.if-s-at-eq43.false c.if-s-at-eq45.true }
+    record {
+      within = omega (arith, less (goal.at.returns-then-s-at-eq45 c).Else-at-s);
+      left = sign_minus _ _ (less (goal.at.returns-then-s-at-eq45 c).Else-at-s) c.if-s-at-eq43.false c.if-s-at-eq45.true;
+    }
 
 pub returns : goal.returns
 returns c =
-    record { within = search rules; left = sign_other _ _ (less (goal.at.returns c).Else-at-s) c.if-s-at-eq43.false c.if-s-at-eq45.false }
+    record {
+      within = search rules;
+      left = sign_other _ _ (less (goal.at.returns c).Else-at-s) c.if-s-at-eq43.false c.if-s-at-eq45.false;
+    }

@@ -25,12 +25,20 @@ missed e = not_got _ (read_token (ascii "false") (drop e.args.at (e.args.s.now))
 pub returns-then-no : goal.returns-then-no
 returns-then-no c =
     let m = place_got (bytes (goal.at.returns-then-no c).After-token-no) (read_token (ascii "false") (rest (goal.at.returns-then-no c).After-token-no)) c.token-no.result c.token-no.ensures c.if-no.true in
-    truth_is (bytes (goal.at.returns-then-no c).After-token-no) _ (record { ok = true; value = false; at = c.token-no.result.at }) (truth_false (rest (goal.at.returns-then-no c).After-token-no) _ m.0) refl m.1
+    truth_is (bytes (goal.at.returns-then-no c).After-token-no) _ (record {
+      ok = true;
+      value = false;
+      at = c.token-no.result.at;
+    }) (truth_false (rest (goal.at.returns-then-no c).After-token-no) _ m.0) refl m.1
 
 pub returns-then-yes : goal.returns-then-yes
 returns-then-yes c =
     let m = place_got (bytes (goal.at.returns-then-yes c).After-token-no) (read_token (ascii "true") (rest (goal.at.returns-then-yes c).After-token-no)) c.token-yes.result c.token-yes.ensures c.if-yes.true in
-    truth_is (bytes (goal.at.returns-then-yes c).After-token-no) _ (record { ok = true; value = true; at = c.token-yes.result.at }) (truth_true (rest (goal.at.returns-then-yes c).After-token-no) (missed (goal.at.returns-then-yes c).Else-no) _ m.0) refl m.1
+    truth_is (bytes (goal.at.returns-then-yes c).After-token-no) _ (record {
+      ok = true;
+      value = true;
+      at = c.token-yes.result.at;
+    }) (truth_true (rest (goal.at.returns-then-yes c).After-token-no) (missed (goal.at.returns-then-yes c).Else-no) _ m.0) refl m.1
 
 pub returns : goal.returns
 returns c =

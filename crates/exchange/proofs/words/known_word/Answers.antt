@@ -77,7 +77,10 @@ pub digit_of-requires : goal.digit_of-requires
 digit_of-requires c = is_one (goal.at.digit_of-requires c).After-skip_space-start
 
 pub known_digits-requires : goal.known_digits-requires
-known_digits-requires c = let h : start (goal.at.known_digits-requires c).After-skip_space-start + 1 ≤ length (text (goal.at.known_digits-requires c).After-skip_space-start) = omega (arith, less (goal.at.known_digits-requires c).After-skip_space-start) in record { at_in_bounds = h; s_bound = fits c; }
+known_digits-requires c = let h : start (goal.at.known_digits-requires c).After-skip_space-start + 1 ≤ length (text (goal.at.known_digits-requires c).After-skip_space-start) = omega (arith, less (goal.at.known_digits-requires c).After-skip_space-start) in record {
+  at_in_bounds = h;
+  s_bound = fits c;
+}
 
 pub returns : goal.returns
 returns c =

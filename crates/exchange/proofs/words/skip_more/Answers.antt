@@ -18,7 +18,10 @@ returns-then-not-is_digit c =
     let s = c.args.s.now in
     let i : ℕ = c.loop-i.i in
     let less : i < length s = omega arith in
-    record { within = omega arith; left = rest_here s i less (sym c.is_digit.ensures ∙ c.if-not-is_digit.true) ∙ c.loop-i.invariant.1 }
+    record {
+      within = omega arith;
+      left = rest_here s i less (sym c.is_digit.ensures ∙ c.if-not-is_digit.true) ∙ c.loop-i.invariant.1;
+    }
 
 pub overflow_add-i : goal.overflow_add-i
 overflow_add-i c = omega arith

@@ -30,4 +30,7 @@ pub returns : goal.returns
 returns c =
     let whole = (let a = c.args in
     let fits : c.put_bytes-c.result ≤ length a.out.now = omega (arith, room (goal.at.returns c).Start, c.put_bytes-a.ensures.value, c.put_listed-b.ensures.value, c.put_bytes-c.ensures.value) in
-    arrays_stand a.out.now a.bits.now a.order.now _ _ _ _ _ _ _ _ (c.put_bytes-a.ensures.value, (c.put_bytes-a.ensures.out_after)) (c.put_listed-b.ensures.value, (c.put_listed-b.ensures.out_after)) (c.put_bytes-c.ensures.value, (c.put_bytes-c.ensures.out_after)) (c.put_listed.ensures.value, (c.put_listed.ensures.out_after)) fits) in record { value = whole.0; out_after = whole.1; }
+    arrays_stand a.out.now a.bits.now a.order.now _ _ _ _ _ _ _ _ (c.put_bytes-a.ensures.value, (c.put_bytes-a.ensures.out_after)) (c.put_listed-b.ensures.value, (c.put_listed-b.ensures.out_after)) (c.put_bytes-c.ensures.value, (c.put_bytes-c.ensures.out_after)) (c.put_listed.ensures.value, (c.put_listed.ensures.out_after)) fits) in record {
+      value = whole.0;
+      out_after = whole.1;
+    }

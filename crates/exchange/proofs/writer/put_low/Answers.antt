@@ -12,7 +12,10 @@ put_bytes-requires c =
 pub returns-then-low_first : goal.returns-then-low_first
 returns-then-low_first c =
     let whole = (let a = c.args in
-    low_stands a.out.now a.at a.low_first _ _ _ (low_true a.low_first c.if-low_first.true) (c.put_bytes.ensures.value, (c.put_bytes.ensures.out_after))) in record { value = whole.0; out_after = whole.1; }
+    low_stands a.out.now a.at a.low_first _ _ _ (low_true a.low_first c.if-low_first.true) (c.put_bytes.ensures.value, (c.put_bytes.ensures.out_after))) in record {
+      value = whole.0;
+      out_after = whole.1;
+    }
 
 pub put_bytes-requires-2 : goal.put_bytes-requires-2
 put_bytes-requires-2 c =
@@ -21,4 +24,7 @@ put_bytes-requires-2 c =
 pub returns : goal.returns
 returns c =
     let whole = (let a = c.args in
-    low_stands a.out.now a.at a.low_first _ _ _ (low_false a.low_first c.if-low_first.false) (c.put_bytes-2.ensures.value, (c.put_bytes-2.ensures.out_after))) in record { value = whole.0; out_after = whole.1; }
+    low_stands a.out.now a.at a.low_first _ _ _ (low_false a.low_first c.if-low_first.false) (c.put_bytes-2.ensures.value, (c.put_bytes-2.ensures.out_after))) in record {
+      value = whole.0;
+      out_after = whole.1;
+    }

@@ -38,4 +38,7 @@ returns c =
     let fits : c.put_decimal-d.result ≤ length a.out.now =
     omega (arith, room (goal.at.returns c).Start, c.put_bytes-a.ensures.value, c.put_decimal-b.ensures.value, c.put_bytes-c.ensures.value, c.put_decimal-d.ensures.value) in
     numbers_stand a.out.now a.at a.division a.block_size a.low_first _ _ _ _ _ _ _ _ _ _
-    (c.put_bytes-a.ensures.value, (c.put_bytes-a.ensures.out_after)) (c.put_decimal-b.ensures.value, (c.put_decimal-b.ensures.out_after)) (c.put_bytes-c.ensures.value, (c.put_bytes-c.ensures.out_after)) (c.put_decimal-d.ensures.value, (c.put_decimal-d.ensures.out_after)) (c.put_low.ensures.value, (c.put_low.ensures.out_after)) fits) in record { value = whole.0; out_after = whole.1; }
+    (c.put_bytes-a.ensures.value, (c.put_bytes-a.ensures.out_after)) (c.put_decimal-b.ensures.value, (c.put_decimal-b.ensures.out_after)) (c.put_bytes-c.ensures.value, (c.put_bytes-c.ensures.out_after)) (c.put_decimal-d.ensures.value, (c.put_decimal-d.ensures.out_after)) (c.put_low.ensures.value, (c.put_low.ensures.out_after)) fits) in record {
+      value = whole.0;
+      out_after = whole.1;
+    }

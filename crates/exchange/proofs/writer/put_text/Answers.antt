@@ -45,4 +45,7 @@ pub returns : goal.returns
 returns c =
     let whole = (let a = c.args in
     let within : c.put_arrays-at.result ≤ length a.out.now = omega (arith, room (goal.at.returns c).Start, c.put_arrays-at.ensures.value) in
-    text_stands a.out.now (exchanged_of a.finding a.order.now) _ _ _ _ (c.put_arrays-at.ensures.value, (c.put_arrays-at.ensures.out_after)) (c.put_numbers.ensures.value, (c.put_numbers.ensures.out_after)) within) in record { value = whole.0; out_after = whole.1; }
+    text_stands a.out.now (exchanged_of a.finding a.order.now) _ _ _ _ (c.put_arrays-at.ensures.value, (c.put_arrays-at.ensures.out_after)) (c.put_numbers.ensures.value, (c.put_numbers.ensures.out_after)) within) in record {
+      value = whole.0;
+      out_after = whole.1;
+    }

@@ -41,7 +41,10 @@ returns-then-not-has_room c =
     (refused_room a.finding a.order.now (length a.scratch.now) (length a.out.now) (taken (goal.at.returns-then-not-has_room c).Else-refusal-ne0) short) (λ z. omega arith) c.validate-refusal.ensures.scratch_after
 
 pub put_text-requires : goal.put_text-requires
-put_text-requires c = record { writable = limits (goal.at.put_text-requires c).Else-refusal-ne0; order_in_bounds = room (goal.at.put_text-requires c).Else-not-has_room; }
+put_text-requires c = record {
+  writable = limits (goal.at.put_text-requires c).Else-refusal-ne0;
+  order_in_bounds = room (goal.at.put_text-requires c).Else-not-has_room;
+}
 
 pub returns : goal.returns
 returns c =

@@ -16,7 +16,10 @@ pub returns-then-refusal-ne0 : goal.returns-then-refusal-ne0
 returns-then-refusal-ne0 c =
     let whole = (let a = c.args in
     evaluation_refused (finding_read a.numbers.now) c.subset_refusal-refusal.result c.subset_refusal-refusal.ensures c.if-refusal-ne0.true
-    a.order.now a.bytes.now a.scratch.now c.refused.result c.refused.ensures) in record { value = whole.0; scratch_after = whole.1; }
+    a.order.now a.bytes.now a.scratch.now c.refused.result c.refused.ensures) in record {
+      value = whole.0;
+      scratch_after = whole.1;
+    }
 
 pub read_finding-requires : goal.read_finding-requires
 read_finding-requires c = readable c.args.numbers.now c.requires (none c)

@@ -15,7 +15,10 @@ none e = sym e.subset_refusal-refusal.ensures ∙ e.if-refusal-ne0.false
 pub returns-then-refusal-ne0 : goal.returns-then-refusal-ne0
 returns-then-refusal-ne0 c =
     let whole = (let a = c.args in
-    check_refused (finding_read a.numbers.now) c.subset_refusal-refusal.result c.subset_refusal-refusal.ensures c.if-refusal-ne0.true a.order.now a.scratch.now) in record { value = whole.0; scratch_after = whole.1; }
+    check_refused (finding_read a.numbers.now) c.subset_refusal-refusal.result c.subset_refusal-refusal.ensures c.if-refusal-ne0.true a.order.now a.scratch.now) in record {
+      value = whole.0;
+      scratch_after = whole.1;
+    }
 
 pub read_finding-requires : goal.read_finding-requires
 read_finding-requires c = readable c.args.numbers.now c.requires (none c)

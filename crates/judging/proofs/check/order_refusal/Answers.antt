@@ -39,10 +39,16 @@ slice_bounds-is_permutation-end-2 c = sym (lent (goal.at.slice_bounds-is_permuta
 pub returns-then-not-is_permutation : goal.returns-then-not-is_permutation
 unfolding order_refusal
 returns-then-not-is_permutation c =
-    record { value = simp (sym (tested (goal.at.returns-then-not-is_permutation c).After-is_permutation) ∙ c.if-not-is_permutation.true); scratch_after = left (goal.at.returns-then-not-is_permutation c).After-is_permutation; }
+    record {
+      value = simp (sym (tested (goal.at.returns-then-not-is_permutation c).After-is_permutation) ∙ c.if-not-is_permutation.true);
+      scratch_after = left (goal.at.returns-then-not-is_permutation c).After-is_permutation;
+    }
 
 pub returns : goal.returns
 unfolding order_refusal
 returns c =
-    let a = c.args in record { value = c.division_refusal.ensures ∙ ap (division_refusal a.division) c.bin_count-m.ensures
-          ∙ simp (sym (tested (goal.at.returns c).After-is_permutation) ∙ c.if-not-is_permutation.false); scratch_after = left (goal.at.returns c).After-is_permutation; }
+    let a = c.args in record {
+      value = c.division_refusal.ensures ∙ ap (division_refusal a.division) c.bin_count-m.ensures
+          ∙ simp (sym (tested (goal.at.returns c).After-is_permutation) ∙ c.if-not-is_permutation.false);
+      scratch_after = left (goal.at.returns c).After-is_permutation;
+    }

@@ -30,7 +30,10 @@ pub returns-then-refusal-ne0 : goal.returns-then-refusal-ne0
 unfolding early_check_refusal
 returns-then-refusal-ne0 c =
     let whole = (let is = c.shape_refusal-refusal.ensures in
-    early (goal.at.returns-then-refusal-ne0 c).Start c.shape_refusal-refusal.result (is ∙ or_first _ _ (λ z. c.if-refusal-ne0.true (is ∙ z))) c.if-refusal-ne0.true) in record { value = whole.0; scratch_after = whole.1; }
+    early (goal.at.returns-then-refusal-ne0 c).Start c.shape_refusal-refusal.result (is ∙ or_first _ _ (λ z. c.if-refusal-ne0.true (is ∙ z))) c.if-refusal-ne0.true) in record {
+      value = whole.0;
+      scratch_after = whole.1;
+    }
 
 pub scratch_refusal-short-requires : goal.scratch_refusal-short-requires
 scratch_refusal-short-requires c = (facts c).limits.width
@@ -39,7 +42,10 @@ pub returns-then-short-ne0 : goal.returns-then-short-ne0
 unfolding early_check_refusal
 returns-then-short-ne0 c =
     let whole = (let r = c.scratch_refusal-short in
-    early (goal.at.returns-then-short-ne0 c).Start r.result (r.ensures ∙ or_next _ _ (shape_ok (goal.at.returns-then-short-ne0 c).Else-refusal-ne0)) c.if-short-ne0.true) in record { value = whole.0; scratch_after = whole.1; }
+    early (goal.at.returns-then-short-ne0 c).Start r.result (r.ensures ∙ or_next _ _ (shape_ok (goal.at.returns-then-short-ne0 c).Else-refusal-ne0)) c.if-short-ne0.true) in record {
+      value = whole.0;
+      scratch_after = whole.1;
+    }
 
 pub order_refusal-requires : goal.order_refusal-requires
 order_refusal-requires c =
@@ -51,4 +57,7 @@ unfolding check_refusal checked_scratch early_check_refusal
 returns c =
     let a = c.args in
     let none = sym (or_next _ _ (shape_ok (goal.at.returns c).Else-refusal-ne0)) ∙ scratch_ok (goal.at.returns c).Else-short-ne0 in
-    record { value = c.order_refusal.ensures.value ∙ or_next _ _ none; scratch_after = c.order_refusal.ensures.scratch_after ∙ is_cleared _ a.finding.width a.scratch.now none; }
+    record {
+      value = c.order_refusal.ensures.value ∙ or_next _ _ none;
+      scratch_after = c.order_refusal.ensures.scratch_after ∙ is_cleared _ a.finding.width a.scratch.now none;
+    }

@@ -55,11 +55,14 @@ slice_bounds-bits_block_eval-end c = omega (arith, inside c)
 
 pub bits_block_eval-v-requires : goal.bits_block_eval-v-requires
 bits_block_eval-v-requires c =
-    let a = c.args in record { bits_len_bound = c.requires.countable_data.few; by_index = λ i h.
+    let a = c.args in record {
+      bits_len_bound = c.requires.countable_data.few;
+      by_index = λ i h.
           let long = block_length (a.block_size / 8) c.loop-e.e a.bytes.now c.loop-e-test.true in
           let below : get_or a.bits.now i 0 < a.block_size = c.requires.countable_data.within i h in
           let v = sized (goal.at.bits_block_eval-v-requires c).Start in
-          omega (arith, long, v.whole); }
+          omega (arith, long, v.whole);
+    }
 
 pub bounds-bins-v : goal.bounds-bins-v
 bounds-bins-v c = omega (arith, bin (goal.at.bounds-bins-v c).After-bits_block_eval-v, bins_length (goal.at.bounds-bins-v c).At-loop-e)

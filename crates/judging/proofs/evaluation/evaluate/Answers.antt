@@ -25,7 +25,10 @@ slice_bounds-bits-end c =
 
 pub count_blocks-requires : goal.count_blocks-requires
 count_blocks-requires c =
-    record { countable_data = c.requires.countable_data; bins_value = c.requires.bins_value ∙ ap (λ (k : ℕ). replicate (2 ^ k) 0) (sym c.requires.finding_len.0); }
+    record {
+      countable_data = c.requires.countable_data;
+      bins_value = c.requires.bins_value ∙ ap (λ (k : ℕ). replicate (2 ^ k) 0) (sym c.requires.finding_len.0);
+    }
 
 pub sum_first-requires : goal.sum_first-requires
 sum_first-requires c =
@@ -35,9 +38,15 @@ sum_first-requires c =
     let is = c.count_blocks.ensures in
     let long = ap length is ∙ length_counts bit n (chosen f) ∙ ap (λ (k : ℕ). 2 ^ k) c.requires.finding_len.0 in
     let sum = ap total is ∙ counts_add_up n bit (recorded_small f.block_size f.low_first c.args.bytes.now) (chosen f) in
-    record { permutation = subst (λ (m : ℕ). Permutation m c.args.order.now) (sym long) c.requires.finding_len.1; division_in_bounds = (c.requires.finding_len.2, omega (arith, sum, c.requires.countable_data.blocks)); }
+    record {
+      permutation = subst (λ (m : ℕ). Permutation m c.args.order.now) (sym long) c.requires.finding_len.1;
+      division_in_bounds = (c.requires.finding_len.2, omega (arith, sum, c.requires.countable_data.blocks));
+    }
 
 pub returns : goal.returns
 returns c =
     let a = c.args in
-    record { value = c.sum_first.ensures ∙ ap (λ (s : List ℕ). positive_of s a.order.now a.finding.division) c.count_blocks.ensures; bins_after = c.count_blocks.ensures; }
+    record {
+      value = c.sum_first.ensures ∙ ap (λ (s : List ℕ). positive_of s a.order.now a.finding.division) c.count_blocks.ensures;
+      bins_after = c.count_blocks.ensures;
+    }

@@ -56,7 +56,11 @@ returns-then-early-ne0 c =
     let is = c.early_evaluation_refusal-early.ensures in
     let some : early_evaluation_refusal a.finding (length a.order.now) (testing_blocks a.finding a.bytes.now) (length a.scratch.now) ≡ 0 → ⊥ = λ z. c.if-early-ne0.true (is ∙ z) in
     let whole = is ∙ or_first _ (order_refusal a.finding.width a.finding.division a.order.now) some in
-    let answer = c.refused.ensures ∙ ap refused_with whole ∙ answer_refused _ _ _ _ (λ z. some (sym is ∙ whole ∙ z)) in record { value = answer; score_value = answer_number a.finding a.order.now a.bytes.now (length a.scratch.now) c.refused.result answer; scratch_after = scratch_lent _ _ a.finding.width _ a.scratch.now some; }
+    let answer = c.refused.ensures ∙ ap refused_with whole ∙ answer_refused _ _ _ _ (λ z. some (sym is ∙ whole ∙ z)) in record {
+      value = answer;
+      score_value = answer_number a.finding a.order.now a.bytes.now (length a.scratch.now) c.refused.result answer;
+      scratch_after = scratch_lent _ _ a.finding.width _ a.scratch.now some;
+    }
 
 pub order_refusal-refusal-requires : goal.order_refusal-refusal-requires
 order_refusal-refusal-requires c = let f = facts (goal.at.order_refusal-refusal-requires c).Else-early-ne0 in (f.shape.limits.width, f.space)
@@ -68,7 +72,11 @@ returns-then-refusal-ne0 c =
     let is = c.order_refusal-refusal.ensures.value in
     let some : order_refusal a.finding.width a.finding.division a.order.now ≡ 0 → ⊥ = λ z. c.if-refusal-ne0.true (is ∙ z) in
     let whole = is ∙ or_next _ _ (none (goal.at.returns-then-refusal-ne0 c).Else-early-ne0) in
-    let answer = c.refused-then-refusal-ne0.ensures ∙ ap refused_with whole ∙ answer_refused _ _ _ _ (λ z. some (sym is ∙ whole ∙ z)) in record { value = answer; score_value = answer_number a.finding a.order.now a.bytes.now (length a.scratch.now) c.refused-then-refusal-ne0.result answer; scratch_after = c.order_refusal-refusal.ensures.scratch_after ∙ scratch_cleared _ _ a.finding.width _ a.scratch.now (none (goal.at.returns-then-refusal-ne0 c).Else-early-ne0) some; }
+    let answer = c.refused-then-refusal-ne0.ensures ∙ ap refused_with whole ∙ answer_refused _ _ _ _ (λ z. some (sym is ∙ whole ∙ z)) in record {
+      value = answer;
+      score_value = answer_number a.finding a.order.now a.bytes.now (length a.scratch.now) c.refused-then-refusal-ne0.result answer;
+      scratch_after = c.order_refusal-refusal.ensures.scratch_after ∙ scratch_cleared _ _ a.finding.width _ a.scratch.now (none (goal.at.returns-then-refusal-ne0 c).Else-early-ne0) some;
+    }
 
 pub bin_count-m-requires : goal.bin_count-m-requires
 bin_count-m-requires c = (facts (goal.at.bin_count-m-requires c).Else-early-ne0).shape.limits.width
@@ -84,12 +92,16 @@ pub evaluate-positive-requires : goal.evaluate-positive-requires
 evaluate-positive-requires c =
     let a = c.args in
     let f = facts (goal.at.evaluate-positive-requires c).Else-early-ne0 in
-    let o = order_facts (goal.at.evaluate-positive-requires c).Else-refusal-ne0 in record { countable_data = countable a.finding (length a.order.now) (length a.scratch.now) a.bytes.now f (size (goal.at.evaluate-positive-requires c).Start); bins_value = ap (λ (m : ℕ). take m c.order_refusal-refusal.new.scratch) c.bin_count-m.ensures
-            ∙ ap (take (2 ^ a.finding.width)) c.order_refusal-refusal.ensures.scratch_after ∙ cleared_first a.finding.width a.scratch.now; finding_len = (
-          chosen_length a.finding f.shape.limits.width (size (goal.at.evaluate-positive-requires c).Start),
-          (once_permutes (2 ^ a.finding.width) a.order.now f.shape.sized).0 o.once,
-          omega (arith, o.below, f.shape.sized),
-        ); }
+    let o = order_facts (goal.at.evaluate-positive-requires c).Else-refusal-ne0 in record {
+      countable_data = countable a.finding (length a.order.now) (length a.scratch.now) a.bytes.now f (size (goal.at.evaluate-positive-requires c).Start);
+      bins_value = ap (λ (m : ℕ). take m c.order_refusal-refusal.new.scratch) c.bin_count-m.ensures
+          ∙ ap (take (2 ^ a.finding.width)) c.order_refusal-refusal.ensures.scratch_after ∙ cleared_first a.finding.width a.scratch.now;
+      finding_len = (
+        chosen_length a.finding f.shape.limits.width (size (goal.at.evaluate-positive-requires c).Start),
+        (once_permutes (2 ^ a.finding.width) a.order.now f.shape.sized).0 o.once,
+        omega (arith, o.below, f.shape.sized),
+      );
+    }
 
 pub nonzero_div-n-2 : goal.nonzero_div-n-2
 nonzero_div-n-2 c = omega (arith, valid_facts _ (facts (goal.at.nonzero_div-n-2 c).Else-early-ne0).shape.limits.valid)
@@ -112,8 +124,16 @@ returns c =
     let all = sym (or_next _ _ (none (goal.at.returns c).Else-early-ne0)) ∙ order_ok (goal.at.returns c).Else-refusal-ne0 in
     let result : Evaluated = record { refusal = 0; positive = c.evaluate-positive.result; score = c.score_of-score.result } in
     let answer : result ≡ evaluated_of f a.order.now a.bytes.now (length a.scratch.now) =
-    (λ i. record { refusal = 0; positive = found i; score = scored i }) ∙ answer_found _ _ _ _ all in record { value = answer; score_value = answer_number f a.order.now a.bytes.now (length a.scratch.now) result answer; scratch_after = ap (λ (s : List ℕ). s ++ drop c.bin_count-m.result c.order_refusal-refusal.new.scratch) c.evaluate-positive.ensures.bins_after
-            ∙ ap (λ (s : List ℕ). counts_in f a.bytes.now ++ s)
-            (ap (λ (m : ℕ). drop m c.order_refusal-refusal.new.scratch) c.bin_count-m.ensures
-            ∙ ap (drop (2 ^ k)) c.order_refusal-refusal.ensures.scratch_after ∙ cleared_rest k a.scratch.now)
-            ∙ scratch_counted _ _ k (counts_in f a.bytes.now) a.scratch.now (none (goal.at.returns c).Else-early-ne0) (order_ok (goal.at.returns c).Else-refusal-ne0); }
+    (λ i. record {
+      refusal = 0;
+      positive = found i;
+      score = scored i;
+    }) ∙ answer_found _ _ _ _ all in record {
+      value = answer;
+      score_value = answer_number f a.order.now a.bytes.now (length a.scratch.now) result answer;
+      scratch_after = ap (λ (s : List ℕ). s ++ drop c.bin_count-m.result c.order_refusal-refusal.new.scratch) c.evaluate-positive.ensures.bins_after
+          ∙ ap (λ (s : List ℕ). counts_in f a.bytes.now ++ s)
+          (ap (λ (m : ℕ). drop m c.order_refusal-refusal.new.scratch) c.bin_count-m.ensures
+          ∙ ap (drop (2 ^ k)) c.order_refusal-refusal.ensures.scratch_after ∙ cleared_rest k a.scratch.now)
+          ∙ scratch_counted _ _ k (counts_in f a.bytes.now) a.scratch.now (none (goal.at.returns c).Else-early-ne0) (order_ok (goal.at.returns c).Else-refusal-ne0);
+    }

@@ -12,4 +12,7 @@ mark-once-requires c =
 
 pub returns : goal.returns
 returns c =
-    let a = c.args in record { value = c.mark-once.ensures ∙ ap (λ (m : ℕ). each_once m a.order.now) c.clear.auto.seen; seen_after = c.clear-2.ensures ∙ ap (λ (m : ℕ). replicate m 0) (c.mark-once.auto.seen ∙ c.clear.auto.seen); }
+    let a = c.args in record {
+      value = c.mark-once.ensures ∙ ap (λ (m : ℕ). each_once m a.order.now) c.clear.auto.seen;
+      seen_after = c.clear-2.ensures ∙ ap (λ (m : ℕ). replicate m 0) (c.mark-once.auto.seen ∙ c.clear.auto.seen);
+    }

@@ -33,4 +33,12 @@ bounds-run-bits c = omega (arith, inside (goal.at.bounds-run-bits c).Start, room
 pub split_bins-requires : goal.split_bins-requires
 split_bins-requires c =
     let a = c.args in
-    let some : 1 ≤ length a.bits.now = omega (arith, c.requires.in_bounds) in record { in_bounds = (some, le_refl (length a.bits.now), c.requires.in_bounds.1); subset = c.requires.subset; count_value = λ _. own_count _ _ a.stretch.block_size a.bits.now a.run.now some c.requires.subset c.requires.run; holds = c.requires.holds; tables = c.requires.run.tables; bits_in_bounds = c.requires.bits_in_bounds; halved = c.requires.shared c.requires.in_bounds.0; }
+    let some : 1 ≤ length a.bits.now = omega (arith, c.requires.in_bounds) in record {
+      in_bounds = (some, le_refl (length a.bits.now), c.requires.in_bounds.1);
+      subset = c.requires.subset;
+      count_value = λ _. own_count _ _ a.stretch.block_size a.bits.now a.run.now some c.requires.subset c.requires.run;
+      holds = c.requires.holds;
+      tables = c.requires.run.tables;
+      bits_in_bounds = c.requires.bits_in_bounds;
+      halved = c.requires.shared c.requires.in_bounds.0;
+    }

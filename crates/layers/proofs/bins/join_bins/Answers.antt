@@ -35,4 +35,4 @@ loop-v-preserved c =
     )
 
 pub returns : goal.returns
-returns c = record { by_index_2 = λ v h. c.loop-v.invariant.3.0 v (omega arith); bins_unchanged = c.loop-v.invariant.2; }
+returns c = record { by_index_2 = λ v h. c.loop-v.invariant.3.0 v (omega arith); bins_unchanged = c.loop-v.invariant.2 }

@@ -10,7 +10,6 @@ use Rattle.counting.specs.Sample.{count_in}
 use Rattle.counting.specs.Stretch.{span, stretch_bit}
 use Rattle.layers.proofs.Leading.{subset_take, tables_take, none_counted, counts_at, counts_past}
 use Rattle.layers.proofs.Parting.{past_larger}
-use Rattle.layers.proofs.bins.leading_bins.Invariants.{Split}
 use Rattle.layers.proofs.bins.leading_bins.Goals as goal
 
 -- the first m bits but the last of them
@@ -53,7 +52,15 @@ split_bins-requires c =
     let w = c.loop-m.invariant in
     let size : length (take m b) ≡ m = length-take-le m b w.within in
     let small : 2 ^ m ≤ 2 ^ length b = pow_mono w.within in
-    rw size (record { in_bounds = (w.some, w.within, c.requires.in_bounds.1); subset = subset_take B m b w.within c.requires.subset; count_value = λ e. absurd (omega (arith, c.loop-m-test.true)); holds = c.requires.holds; tables = tables_take B (length b) m b a.run.now w.within c.requires.tables; bits_in_bounds = (omega (arith, small, w.part_size, c.requires.bits_in_bounds.0), omega (arith, small, w.bin_size, length-set a.bins.now 0 c.span.result, c.requires.bits_in_bounds.1)); halved = λ v h. w.counted v h ∙ ap (λ (p : List ℕ). count_in (stretch_bit a.stretch a.words.now) (span a.stretch) p v) (sym (shorter m b w.within)); })
+    rw size (record {
+      in_bounds = (w.some, w.within, c.requires.in_bounds.1);
+      subset = subset_take B m b w.within c.requires.subset;
+      count_value = λ e. absurd (omega (arith, c.loop-m-test.true));
+      holds = c.requires.holds;
+      tables = tables_take B (length b) m b a.run.now w.within c.requires.tables;
+      bits_in_bounds = (omega (arith, small, w.part_size, c.requires.bits_in_bounds.0), omega (arith, small, w.bin_size, length-set a.bins.now 0 c.span.result, c.requires.bits_in_bounds.1));
+      halved = λ v h. w.counted v h ∙ ap (λ (p : List ℕ). count_in (stretch_bit a.stretch a.words.now) (span a.stretch) p v) (sym (shorter m b w.within));
+    })
 
 pub loop-m-preserved : goal.loop-m-preserved
 loop-m-preserved c =
@@ -91,4 +98,8 @@ returns c =
     let a = c.args in
     let b = a.bits.now in
     let w = c.loop-m.invariant in
-    let e : c.loop-m.m ≡ length b = omega (arith, w.within, c.loop-m-test.false) in record { halved = λ v h. rw e at w.counted v h; bins_unchanged = w.bin_rest ∙ drop-set-lt (2 ^ length b) a.bins.now 0 c.span.result (pow_pos (length b)); parts_unchanged = w.part_rest; }
+    let e : c.loop-m.m ≡ length b = omega (arith, w.within, c.loop-m-test.false) in record {
+      halved = λ v h. rw e at w.counted v h;
+      bins_unchanged = w.bin_rest ∙ drop-set-lt (2 ^ length b) a.bins.now 0 c.span.result (pow_pos (length b));
+      parts_unchanged = w.part_rest;
+    }

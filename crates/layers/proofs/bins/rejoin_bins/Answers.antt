@@ -19,10 +19,13 @@ all_is s =
 pub join_bins-requires : goal.join_bins-requires
 join_bins-requires c =
     let half = half_is (goal.at.join_bins-requires c).Start in
-    record { half_in_bounds = rw half (omega (arith, all_is (goal.at.join_bins-requires c).Start, c.requires.le_k)); by_index = rw half c.requires.by_index; }
+    record {
+      half_in_bounds = rw half (omega (arith, all_is (goal.at.join_bins-requires c).Start, c.requires.le_k));
+      by_index = rw half c.requires.by_index;
+    }
 
 pub returns : goal.returns
 returns c =
     let r = c.join_bins.ensures in
     let h = half_is (goal.at.returns c).Start in
-    record { v_after = λ _. rw h at r.by_index_2; bins_unchanged = rw h at r.bins_unchanged; }
+    record { v_after = λ _. rw h at r.by_index_2; bins_unchanged = rw h at r.bins_unchanged }

@@ -76,9 +76,13 @@ upper_covered d =
     let e : length a.bits.now ≡ suc (length a.bits.now - 1) = omega (arith, d.requires.in_bounds) in
     covered (stretch_bit a.stretch a.words.now) (stretch_lt a.stretch a.words.now) (span a.stretch) a.k a.bits.now (length a.bits.now - 1) (1 * 2 ^ (length d.args.bits.now - 1) % 2 ^ 64)
     d.kept_numbers-end.result a.count e (let half_is' : (1 * 2 ^ (length d.args.bits.now - 1) % 2 ^ 64) ≡ 2 ^ (length d.args.bits.now - 1) = shifted_one 64 (length d.args.bits.now - 1) (omega (arith, d.requires.in_bounds)) in half_is') (let short' : let a = d.args in length a.bits.now < a.k → d.kept_numbers-end.result ≡ 2 * (1 * 2 ^ (length d.args.bits.now - 1) % 2 ^ 64) = λ h. d.kept_numbers-end.ensures.0 h in short') (let all' : let a = d.args in a.k ≤ length a.bits.now → d.kept_numbers-end.result + 1 ≡ 2 * (1 * 2 ^ (length d.args.bits.now - 1) % 2 ^ 64) = λ h. d.kept_numbers-end.ensures.1 h in all') (let own' : let a = d.args in a.k ≤ length a.bits.now → a.count ≡ all_set (stretch_bit a.stretch a.words.now) (span a.stretch) a.bits.now = λ h. d.requires.count_value (omega (arith, d.requires.in_bounds)) in own') a.bins.now _
-    (let h : 2 * (1 * 2 ^ (length d.args.bits.now - 1) % 2 ^ 64) ≤ length a.bins.now = omega (arith, (let all_is' : 2 ^ length d.args.bits.now ≡ 2 * (1 * 2 ^ (length d.args.bits.now - 1) % 2 ^ 64) = let j : ℕ = length d.args.bits.now - 1 in
-    let e : length d.args.bits.now ≡ suc j = omega (arith, d.requires.in_bounds) in
-    ap (λ (x : ℕ). 2 ^ x) e ∙ pow-suc 2 j ∙ omega (arith, (let half_is' : (1 * 2 ^ (length d.args.bits.now - 1) % 2 ^ 64) ≡ 2 ^ (length d.args.bits.now - 1) = shifted_one 64 (length d.args.bits.now - 1) (omega (arith, d.requires.in_bounds)) in half_is')) in all_is'), d.requires.bits_in_bounds.1) in h)
+    (let h : 2 * (1 * 2 ^ (length d.args.bits.now - 1) % 2 ^ 64) ≤ length a.bins.now = omega (
+      arith,
+      (let all_is' : 2 ^ length d.args.bits.now ≡ 2 * (1 * 2 ^ (length d.args.bits.now - 1) % 2 ^ 64) = let j : ℕ = length d.args.bits.now - 1 in
+          let e : length d.args.bits.now ≡ suc j = omega (arith, d.requires.in_bounds) in
+          ap (λ (x : ℕ). 2 ^ x) e ∙ pow-suc 2 j ∙ omega (arith, (let half_is' : (1 * 2 ^ (length d.args.bits.now - 1) % 2 ^ 64) ≡ 2 ^ (length d.args.bits.now - 1) = shifted_one 64 (length d.args.bits.now - 1) (omega (arith, d.requires.in_bounds)) in half_is')) in all_is'),
+      d.requires.bits_in_bounds.1,
+    ) in h)
     (same_size d) (d.gather.ensures.by_index _ _ d.requires.holds) d.gather.ensures.spared
 
 -- ---- what settle left
@@ -93,9 +97,13 @@ split_at d =
     let e : length a.bits.now ≡ suc (length a.bits.now - 1) = omega (arith, d.requires.in_bounds) in
     split_off (stretch_bit a.stretch a.words.now) (stretch_lt a.stretch a.words.now) (span a.stretch) a.k a.bits.now (length a.bits.now - 1) (1 * 2 ^ (length d.args.bits.now - 1) % 2 ^ 64)
     d.kept_numbers-end.result a.count e (let half_is' : (1 * 2 ^ (length d.args.bits.now - 1) % 2 ^ 64) ≡ 2 ^ (length d.args.bits.now - 1) = shifted_one 64 (length d.args.bits.now - 1) (omega (arith, d.requires.in_bounds)) in half_is') (let short' : let a = d.args in length a.bits.now < a.k → d.kept_numbers-end.result ≡ 2 * (1 * 2 ^ (length d.args.bits.now - 1) % 2 ^ 64) = λ h. d.kept_numbers-end.ensures.0 h in short') (let all' : let a = d.args in a.k ≤ length a.bits.now → d.kept_numbers-end.result + 1 ≡ 2 * (1 * 2 ^ (length d.args.bits.now - 1) % 2 ^ 64) = λ h. d.kept_numbers-end.ensures.1 h in all') (let own' : let a = d.args in a.k ≤ length a.bits.now → a.count ≡ all_set (stretch_bit a.stretch a.words.now) (span a.stretch) a.bits.now = λ h. d.requires.count_value (omega (arith, d.requires.in_bounds)) in own') a.bins.now _
-    (let h : 2 * (1 * 2 ^ (length d.args.bits.now - 1) % 2 ^ 64) ≤ length a.bins.now = omega (arith, (let all_is' : 2 ^ length d.args.bits.now ≡ 2 * (1 * 2 ^ (length d.args.bits.now - 1) % 2 ^ 64) = let j : ℕ = length d.args.bits.now - 1 in
-    let e : length d.args.bits.now ≡ suc j = omega (arith, d.requires.in_bounds) in
-    ap (λ (x : ℕ). 2 ^ x) e ∙ pow-suc 2 j ∙ omega (arith, (let half_is' : (1 * 2 ^ (length d.args.bits.now - 1) % 2 ^ 64) ≡ 2 ^ (length d.args.bits.now - 1) = shifted_one 64 (length d.args.bits.now - 1) (omega (arith, d.requires.in_bounds)) in half_is')) in all_is'), d.requires.bits_in_bounds.1) in h)
+    (let h : 2 * (1 * 2 ^ (length d.args.bits.now - 1) % 2 ^ 64) ≤ length a.bins.now = omega (
+      arith,
+      (let all_is' : 2 ^ length d.args.bits.now ≡ 2 * (1 * 2 ^ (length d.args.bits.now - 1) % 2 ^ 64) = let j : ℕ = length d.args.bits.now - 1 in
+          let e : length d.args.bits.now ≡ suc j = omega (arith, d.requires.in_bounds) in
+          ap (λ (x : ℕ). 2 ^ x) e ∙ pow-suc 2 j ∙ omega (arith, (let half_is' : (1 * 2 ^ (length d.args.bits.now - 1) % 2 ^ 64) ≡ 2 ^ (length d.args.bits.now - 1) = shifted_one 64 (length d.args.bits.now - 1) (omega (arith, d.requires.in_bounds)) in half_is')) in all_is'),
+      d.requires.bits_in_bounds.1,
+    ) in h)
     (let same_size' : length d.gather.new.bins ≡ length d.args.bins.now = d.gather.auto.bins ∙ length-set d.args.bins.now _ d.args.count in same_size') (d.gather.ensures.by_index _ _ d.requires.holds) d.gather.ensures.spared
     d.settle.new.upper d.settle.auto.upper (d.settle.ensures _ _ _ (let upper_covered' : let a = d.args in
     let m = (1 * 2 ^ (length d.args.bits.now - 1) % 2 ^ 64) in
@@ -103,9 +111,13 @@ split_at d =
     let e : length a.bits.now ≡ suc (length a.bits.now - 1) = omega (arith, d.requires.in_bounds) in
     covered (stretch_bit a.stretch a.words.now) (stretch_lt a.stretch a.words.now) (span a.stretch) a.k a.bits.now (length a.bits.now - 1) (1 * 2 ^ (length d.args.bits.now - 1) % 2 ^ 64)
     d.kept_numbers-end.result a.count e (let half_is' : (1 * 2 ^ (length d.args.bits.now - 1) % 2 ^ 64) ≡ 2 ^ (length d.args.bits.now - 1) = shifted_one 64 (length d.args.bits.now - 1) (omega (arith, d.requires.in_bounds)) in half_is') (let short' : let a = d.args in length a.bits.now < a.k → d.kept_numbers-end.result ≡ 2 * (1 * 2 ^ (length d.args.bits.now - 1) % 2 ^ 64) = λ h. d.kept_numbers-end.ensures.0 h in short') (let all' : let a = d.args in a.k ≤ length a.bits.now → d.kept_numbers-end.result + 1 ≡ 2 * (1 * 2 ^ (length d.args.bits.now - 1) % 2 ^ 64) = λ h. d.kept_numbers-end.ensures.1 h in all') (let own' : let a = d.args in a.k ≤ length a.bits.now → a.count ≡ all_set (stretch_bit a.stretch a.words.now) (span a.stretch) a.bits.now = λ h. d.requires.count_value (omega (arith, d.requires.in_bounds)) in own') a.bins.now _
-    (let h : 2 * (1 * 2 ^ (length d.args.bits.now - 1) % 2 ^ 64) ≤ length a.bins.now = omega (arith, (let all_is' : 2 ^ length d.args.bits.now ≡ 2 * (1 * 2 ^ (length d.args.bits.now - 1) % 2 ^ 64) = let j : ℕ = length d.args.bits.now - 1 in
-    let e : length d.args.bits.now ≡ suc j = omega (arith, d.requires.in_bounds) in
-    ap (λ (x : ℕ). 2 ^ x) e ∙ pow-suc 2 j ∙ omega (arith, (let half_is' : (1 * 2 ^ (length d.args.bits.now - 1) % 2 ^ 64) ≡ 2 ^ (length d.args.bits.now - 1) = shifted_one 64 (length d.args.bits.now - 1) (omega (arith, d.requires.in_bounds)) in half_is')) in all_is'), d.requires.bits_in_bounds.1) in h)
+    (let h : 2 * (1 * 2 ^ (length d.args.bits.now - 1) % 2 ^ 64) ≤ length a.bins.now = omega (
+      arith,
+      (let all_is' : 2 ^ length d.args.bits.now ≡ 2 * (1 * 2 ^ (length d.args.bits.now - 1) % 2 ^ 64) = let j : ℕ = length d.args.bits.now - 1 in
+          let e : length d.args.bits.now ≡ suc j = omega (arith, d.requires.in_bounds) in
+          ap (λ (x : ℕ). 2 ^ x) e ∙ pow-suc 2 j ∙ omega (arith, (let half_is' : (1 * 2 ^ (length d.args.bits.now - 1) % 2 ^ 64) ≡ 2 ^ (length d.args.bits.now - 1) = shifted_one 64 (length d.args.bits.now - 1) (omega (arith, d.requires.in_bounds)) in half_is')) in all_is'),
+      d.requires.bits_in_bounds.1,
+    ) in h)
     (let same_size' : length d.gather.new.bins ≡ length d.args.bins.now = d.gather.auto.bins ∙ length-set d.args.bins.now _ d.args.count in same_size') (d.gather.ensures.by_index _ _ d.requires.holds) d.gather.ensures.spared in upper_covered')) d.requires.halved
 
 pub overflow_mul-all : goal.overflow_mul-all
@@ -125,7 +137,14 @@ bounds-bins-all c = omega (arith, all_is (goal.at.bounds-bins-all c).Start, some
 
 pub gather-requires : goal.gather-requires
 gather-requires c =
-    let a = c.args in record { in_bounds = (c.requires.in_bounds.0, omega (arith, c.requires.in_bounds)); subset = c.requires.subset; k_bound = (c.requires.in_bounds.2, (within (goal.at.gather-requires c).After-kept_numbers-end).0, (within (goal.at.gather-requires c).After-kept_numbers-end).1, λ u h. few_chosen a.k a.bits.now c.kept_numbers-end.result u c.requires.in_bounds.1 (λ l. short (goal.at.gather-requires c).After-kept_numbers-end l ∙ sym (all_is (goal.at.gather-requires c).Start)) (λ l. all (goal.at.gather-requires c).After-kept_numbers-end l ∙ sym (all_is (goal.at.gather-requires c).Start)) h); roomy = c.requires.holds.roomy; tables = c.requires.tables; bits_in_bounds = (c.requires.bits_in_bounds.0, simp length-set c.requires.bits_in_bounds.1); }
+    let a = c.args in record {
+      in_bounds = (c.requires.in_bounds.0, omega (arith, c.requires.in_bounds));
+      subset = c.requires.subset;
+      k_bound = (c.requires.in_bounds.2, (within (goal.at.gather-requires c).After-kept_numbers-end).0, (within (goal.at.gather-requires c).After-kept_numbers-end).1, λ u h. few_chosen a.k a.bits.now c.kept_numbers-end.result u c.requires.in_bounds.1 (λ l. short (goal.at.gather-requires c).After-kept_numbers-end l ∙ sym (all_is (goal.at.gather-requires c).Start)) (λ l. all (goal.at.gather-requires c).After-kept_numbers-end l ∙ sym (all_is (goal.at.gather-requires c).Start)) h);
+      roomy = c.requires.holds.roomy;
+      tables = c.requires.tables;
+      bits_in_bounds = (c.requires.bits_in_bounds.0, simp length-set c.requires.bits_in_bounds.1);
+    }
 
 pub offset_bounds-bins-half : goal.offset_bounds-bins-half
 offset_bounds-bins-half c = omega (arith, all_is (goal.at.offset_bounds-bins-half c).Start, small (goal.at.offset_bounds-bins-half c).Start)
@@ -135,11 +154,17 @@ slice_bounds-settle-end c = omega (arith, all_is (goal.at.slice_bounds-settle-en
 
 pub settle-requires : goal.settle-requires
 settle-requires c =
-    record { j_bound = omega (arith, c.requires.in_bounds); settles = record { bit = _; n = _; bits = _; covered = upper_covered (goal.at.settle-requires c).After-gather }; }
+    record {
+      j_bound = omega (arith, c.requires.in_bounds);
+      settles = record { bit = _; n = _; bits = _; covered = upper_covered (goal.at.settle-requires c).After-gather };
+    }
 
 pub reduce-requires : goal.reduce-requires
 reduce-requires c =
-    record { step_in_bounds = omega (arith, all_is (goal.at.reduce-requires c).Start, c.requires.bits_in_bounds.1, (split_at (goal.at.reduce-requires c).After-settle).size); by_index = (split_at (goal.at.reduce-requires c).After-settle).falls; }
+    record {
+      step_in_bounds = omega (arith, all_is (goal.at.reduce-requires c).Start, c.requires.bits_in_bounds.1, (split_at (goal.at.reduce-requires c).After-settle).size);
+      by_index = (split_at (goal.at.reduce-requires c).After-settle).falls;
+    }
 
 pub shape_of-bins : goal.shape_of-bins
 shape_of-bins c =
@@ -147,4 +172,7 @@ shape_of-bins c =
 
 pub returns : goal.returns
 returns c =
-    let a = c.args in record { bins_after = (split_at (goal.at.returns c).After-settle).split _ c.reduce.auto.bins c.reduce.ensures; parts_unchanged = same_rest (2 ^ length a.bits.now) _ _ c.gather.auto.parts c.gather.ensures.by_index_2; }
+    let a = c.args in record {
+      bins_after = (split_at (goal.at.returns c).After-settle).split _ c.reduce.auto.bins c.reduce.ensures;
+      parts_unchanged = same_rest (2 ^ length a.bits.now) _ _ c.gather.auto.parts c.gather.ensures.by_index_2;
+    }

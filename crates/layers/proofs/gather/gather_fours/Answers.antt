@@ -367,13 +367,16 @@ loop-u-preserved c =
       parts_more a.block_size a.bits.now (set a.parts.now 0 0) from 4 u c.loop-u.parts c.loop-u.invariant.2 (u + 4) _
           (pow_pos (length a.bits.now - 1)) c.loop-u.invariant.0 (omega (arith, below (goal.at.loop-u-preserved c).In-loop-u)) (omega (arith, in_parts (goal.at.loop-u-preserved c).In-loop-u))
           (λ w low high z. omega (arith, c.loop-u.invariant.1)) (first (goal.at.loop-u-preserved c).In-loop-u).part,
-      elim c.if-u-end.branch [ then-u-end w ↦ rw w.bins-is
-          (entries_more a.block_size a.k a.bits.now a.store.now a.bins.now from (u + 3) _
-          (entries_three a.block_size a.k a.bits.now a.store.now a.bins.now from u c.loop-u.bins read (u + 3) _ _ _ refl
-          c.loop-u.invariant.0 (omega (arith, room)) (first (goal.at.loop-u-preserved c).In-loop-u).entry (second (goal.at.loop-u-preserved c).In-loop-u).entry (third (goal.at.loop-u-preserved c).In-loop-u).entry)
-          (min (u + 4) a.end) _ (omega (arith, w.if-u-end.true)) (omega (arith, c.loop-u.invariant.0)) (omega (arith, room)) (fourth (goal.at.loop-u-preserved c).In-loop-u w.if-u-end.true).entry) | else-u-end w ↦ rw w.bins-is
-          (entries_three a.block_size a.k a.bits.now a.store.now a.bins.now from u c.loop-u.bins read (min (u + 4) a.end) _ _ _
-          (omega (arith, w.if-u-end.false, within (goal.at.loop-u-preserved c).In-loop-u)) c.loop-u.invariant.0 (omega (arith, room)) (first (goal.at.loop-u-preserved c).In-loop-u).entry (second (goal.at.loop-u-preserved c).In-loop-u).entry (third (goal.at.loop-u-preserved c).In-loop-u).entry) ],
+      elim c.if-u-end.branch [
+        | then-u-end w ↦ rw w.bins-is
+            (entries_more a.block_size a.k a.bits.now a.store.now a.bins.now from (u + 3) _
+            (entries_three a.block_size a.k a.bits.now a.store.now a.bins.now from u c.loop-u.bins read (u + 3) _ _ _ refl
+            c.loop-u.invariant.0 (omega (arith, room)) (first (goal.at.loop-u-preserved c).In-loop-u).entry (second (goal.at.loop-u-preserved c).In-loop-u).entry (third (goal.at.loop-u-preserved c).In-loop-u).entry)
+            (min (u + 4) a.end) _ (omega (arith, w.if-u-end.true)) (omega (arith, c.loop-u.invariant.0)) (omega (arith, room)) (fourth (goal.at.loop-u-preserved c).In-loop-u w.if-u-end.true).entry)
+        | else-u-end w ↦ rw w.bins-is
+            (entries_three a.block_size a.k a.bits.now a.store.now a.bins.now from u c.loop-u.bins read (min (u + 4) a.end) _ _ _
+            (omega (arith, w.if-u-end.false, within (goal.at.loop-u-preserved c).In-loop-u)) c.loop-u.invariant.0 (omega (arith, room)) (first (goal.at.loop-u-preserved c).In-loop-u).entry (second (goal.at.loop-u-preserved c).In-loop-u).entry (third (goal.at.loop-u-preserved c).In-loop-u).entry)
+      ],
     )
 
 pub shape_of-parts : goal.shape_of-parts
@@ -386,4 +389,8 @@ shape_of-bins c = c.loop-u.invariant.3.size
 pub returns : goal.returns
 returns c =
     let a = c.args in
-    let r = c.loop-u.invariant.3 in record { by_index = λ bit n holds w low high. r.gathered bit n holds w low (omega (arith, c.loop-u-test.false)); spared = λ w h. r.spared w (⊎_elim (λ q. inl q) (λ q. inr (omega arith)) h); by_index_2 = λ w h. c.loop-u.invariant.2.rest w h ∙ get_or-set_other a.parts.now 0 w 0 0 (λ q. omega (arith, pow_pos (length a.bits.now))); }
+    let r = c.loop-u.invariant.3 in record {
+      by_index = λ bit n holds w low high. r.gathered bit n holds w low (omega (arith, c.loop-u-test.false));
+      spared = λ w h. r.spared w (⊎_elim (λ q. inl q) (λ q. inr (omega arith)) h);
+      by_index_2 = λ w h. c.loop-u.invariant.2.rest w h ∙ get_or-set_other a.parts.now 0 w 0 0 (λ q. omega (arith, pow_pos (length a.bits.now)));
+    }

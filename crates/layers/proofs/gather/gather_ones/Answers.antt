@@ -179,4 +179,8 @@ pub returns : goal.returns
 returns c =
     let a = c.args in
     let from : ℕ = 2 ^ (length a.bits.now - 1) in
-    let r = c.loop-u.invariant.3 in record { by_index = λ bit n holds w low high. r.gathered bit n holds w low (omega (arith, c.loop-u-test.false)); spared = λ w h. r.spared w (outside from a.end c.loop-u.u w c.loop-u.invariant.1 h); by_index_2 = λ w h. c.loop-u.invariant.2.rest w h ∙ get_or-set_other a.parts.now 0 w 0 0 (λ q. omega (arith, pow_pos (length a.bits.now))); }
+    let r = c.loop-u.invariant.3 in record {
+      by_index = λ bit n holds w low high. r.gathered bit n holds w low (omega (arith, c.loop-u-test.false));
+      spared = λ w h. r.spared w (outside from a.end c.loop-u.u w c.loop-u.invariant.1 h);
+      by_index_2 = λ w h. c.loop-u.invariant.2.rest w h ∙ get_or-set_other a.parts.now 0 w 0 0 (λ q. omega (arith, pow_pos (length a.bits.now)));
+    }

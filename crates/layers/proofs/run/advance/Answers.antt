@@ -50,7 +50,10 @@ pub rejoin_bins-requires : goal.rejoin_bins-requires
 rejoin_bins-requires c =
     let a = c.args in
     let bit = stretch_bit a.stretch a.words.now in
-    let held = c.requires.bins_value in record { le_k = (c.requires.le_k.0, c.requires.le_k.1, c.requires.k_in_bounds.1); by_index = λ v h. pair_fits bit (span a.stretch) a.k (a.k - 1) a.bits.now a.bins.now (width (goal.at.rejoin_bins-requires c).Start) (room (goal.at.rejoin_bins-requires c).Start) held _ v refl (omega (arith, c.requires.stretch_in)) h; }
+    let held = c.requires.bins_value in record {
+      le_k = (c.requires.le_k.0, c.requires.le_k.1, c.requires.k_in_bounds.1);
+      by_index = λ v h. pair_fits bit (span a.stretch) a.k (a.k - 1) a.bits.now a.bins.now (width (goal.at.rejoin_bins-requires c).Start) (room (goal.at.rejoin_bins-requires c).Start) held _ v refl (omega (arith, c.requires.stretch_in)) h;
+    }
 
 pub returns-then-bit-block_size : goal.returns-then-bit-block_size
 returns-then-bit-block_size c =
@@ -62,14 +65,26 @@ returns-then-bit-block_size c =
     let e = width (goal.at.returns-then-bit-block_size c).Start in
     let held = c.requires.bins_value in
     let moved = code_bump B a.k (a.k - 1) v a.bits.now e c.requires.subset (omega arith) (omega (arith, c.if-bit-block_size.true)) in
-    let run = stepped bit n B a.k (a.k - 1) v a.bits.now a.run.now e c.requires.le_k.1 (room (goal.at.returns-then-bit-block_size c).Start) (omega arith) c.requires.run in record { stepped = moved; run_2 = λ _. run; shared = λ _ big.
-              halved bit n a.k (a.k - 1) a.bits.now a.bins.now e (room (goal.at.returns-then-bit-block_size c).Start) held (stretch_lt a.stretch a.words.now) _ v c.rejoin_bins.new.bins refl
-              (c.rejoin_bins.ensures.v_after (omega (arith, (moved.next refl).subset.size))); tops = tops_of bit n B a.k _ _ (moved.next refl).subset.size run; bins_unchanged = (past_bins bit n a.k (a.k - 1) a.bits.now a.bins.now e (room (goal.at.returns-then-bit-block_size c).Start) held _ c.rejoin_bins.new.bins refl c.rejoin_bins.ensures.bins_unchanged, refl); }
+    let run = stepped bit n B a.k (a.k - 1) v a.bits.now a.run.now e c.requires.le_k.1 (room (goal.at.returns-then-bit-block_size c).Start) (omega arith) c.requires.run in record {
+      stepped = moved;
+      run_2 = λ _. run;
+      shared = λ _ big.
+          halved bit n a.k (a.k - 1) a.bits.now a.bins.now e (room (goal.at.returns-then-bit-block_size c).Start) held (stretch_lt a.stretch a.words.now) _ v c.rejoin_bins.new.bins refl
+          (c.rejoin_bins.ensures.v_after (omega (arith, (moved.next refl).subset.size)));
+      tops = tops_of bit n B a.k _ _ (moved.next refl).subset.size run;
+      bins_unchanged = (past_bins bit n a.k (a.k - 1) a.bits.now a.bins.now e (room (goal.at.returns-then-bit-block_size c).Start) held _ c.rejoin_bins.new.bins refl c.rejoin_bins.ensures.bins_unchanged, refl);
+    }
 
 pub returns-then-not-successor : goal.returns-then-not-successor
 returns-then-not-successor c =
     let a = c.args in
-    let none : c.successor.result ≡ false = c.if-not-successor.true in record { stepped = subst (λ (r : Bool). Stepped a.stretch.block_size a.k a.bits.now r c.successor.new.bits) none c.successor.ensures; run_2 = λ e. absurd (false≢true e); shared = λ e. absurd (false≢true e); tops = tops (goal.at.returns-then-not-successor c).Start; bins_unchanged = (refl, refl); }
+    let none : c.successor.result ≡ false = c.if-not-successor.true in record {
+      stepped = subst (λ (r : Bool). Stepped a.stretch.block_size a.k a.bits.now r c.successor.new.bits) none c.successor.ensures;
+      run_2 = λ e. absurd (false≢true e);
+      shared = λ e. absurd (false≢true e);
+      tops = tops (goal.at.returns-then-not-successor c).Start;
+      bins_unchanged = (refl, refl);
+    }
 
 pub slice_bounds-begin_run-end : goal.slice_bounds-begin_run-end
 slice_bounds-begin_run-end c =
@@ -82,14 +97,27 @@ slice_bounds-begin_run-end-2 c =
 pub begin_run-requires : goal.begin_run-requires
 begin_run-requires c =
     let F = found (goal.at.begin_run-requires c).After-successor c.if-not-successor.false in
-    rw F.size (record { in_bounds = c.requires.le_k; subset = F; stretch_in = c.requires.stretch_in; holds = c.requires.holds; tops = tops (goal.at.begin_run-requires c).Start; bits_in_bounds = c.requires.k_in_bounds; })
+    rw F.size (record {
+      in_bounds = c.requires.le_k;
+      subset = F;
+      stretch_in = c.requires.stretch_in;
+      holds = c.requires.holds;
+      tops = tops (goal.at.begin_run-requires c).Start;
+      bits_in_bounds = c.requires.k_in_bounds;
+    })
 
 pub returns : goal.returns
 returns c =
     let a = c.args in
     let some : c.successor.result ≡ true = c.if-not-successor.false in
     let size = (found (goal.at.returns c).After-successor some).size in
-    let told = c.begin_run.ensures in record { stepped = subst (λ (r : Bool). Stepped a.stretch.block_size a.k a.bits.now r c.successor.new.bits) some c.successor.ensures; run_2 = λ _. told.run; shared = λ _. told.shared; tops = tops_of (stretch_bit a.stretch a.words.now) (span a.stretch) a.stretch.block_size a.k (take a.k c.successor.new.bits) _ size told.run; bins_unchanged = (
-              subst (λ (m : ℕ). drop (2 ^ m) c.begin_run.new.bins ≡ drop (2 ^ m) a.bins.now) size told.bins_unchanged,
-              subst (λ (m : ℕ). drop (2 ^ m) c.begin_run.new.parts ≡ drop (2 ^ m) a.parts.now) size told.parts_unchanged,
-            ); }
+    let told = c.begin_run.ensures in record {
+      stepped = subst (λ (r : Bool). Stepped a.stretch.block_size a.k a.bits.now r c.successor.new.bits) some c.successor.ensures;
+      run_2 = λ _. told.run;
+      shared = λ _. told.shared;
+      tops = tops_of (stretch_bit a.stretch a.words.now) (span a.stretch) a.stretch.block_size a.k (take a.k c.successor.new.bits) _ size told.run;
+      bins_unchanged = (
+        subst (λ (m : ℕ). drop (2 ^ m) c.begin_run.new.bins ≡ drop (2 ^ m) a.bins.now) size told.bins_unchanged,
+        subst (λ (m : ℕ). drop (2 ^ m) c.begin_run.new.parts ≡ drop (2 ^ m) a.parts.now) size told.parts_unchanged,
+      );
+    }

@@ -17,12 +17,29 @@ tables d =
 
 pub count_run-requires : goal.count_run-requires
 count_run-requires c =
-    record { in_bounds = c.requires.in_bounds; subset = c.requires.subset; stretch_in = c.requires.stretch_in; holds = c.requires.holds; block_size_in_bounds = c.fill_ways.ensures.tops.room; }
+    record {
+      in_bounds = c.requires.in_bounds;
+      subset = c.requires.subset;
+      stretch_in = c.requires.stretch_in;
+      holds = c.requires.holds;
+      block_size_in_bounds = c.fill_ways.ensures.tops.room;
+    }
 
 pub share_bins-requires : goal.share_bins-requires
 share_bins-requires c =
-    record { in_bounds = (c.requires.in_bounds.0, c.requires.in_bounds.1, c.requires.stretch_in.1); subset = c.requires.subset; holds = c.requires.holds; tables = tables (goal.at.share_bins-requires c).After-count_run; bits_in_bounds = c.requires.bits_in_bounds; }
+    record {
+      in_bounds = (c.requires.in_bounds.0, c.requires.in_bounds.1, c.requires.stretch_in.1);
+      subset = c.requires.subset;
+      holds = c.requires.holds;
+      tables = tables (goal.at.share_bins-requires c).After-count_run;
+      bits_in_bounds = c.requires.bits_in_bounds;
+    }
 
 pub returns : goal.returns
 returns c =
-    record { run = record { tables = tables (goal.at.returns c).After-count_run; counted = c.count_run.ensures.by_index }; shared = c.share_bins.ensures.shared; bins_unchanged = c.share_bins.ensures.bins_unchanged; parts_unchanged = (c.share_bins.ensures.parts_unchanged); }
+    record {
+      run = record { tables = tables (goal.at.returns c).After-count_run; counted = c.count_run.ensures.by_index };
+      shared = c.share_bins.ensures.shared;
+      bins_unchanged = c.share_bins.ensures.bins_unchanged;
+      parts_unchanged = (c.share_bins.ensures.parts_unchanged);
+    }

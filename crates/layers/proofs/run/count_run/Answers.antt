@@ -37,9 +37,12 @@ copy-requires c =
 pub returns-then-at-eq0 : goal.returns-then-at-eq0
 returns-then-at-eq0 c =
     let a = c.args in
-    let B = a.stretch.block_size in record { by_index = λ b l h.
+    let B = a.stretch.block_size in record {
+      by_index = λ b l h.
           counted_single (stretch_bit a.stretch a.words.now) (span a.stretch) B a.bits.now a.run.now a.store.now c.copy.new.to c.if-at-eq0.true
-          c.requires.block_size_in_bounds c.requires.holds c.copy.ensures b h; run_unchanged = part_spares 441 441 (441 + B - 441) a.run.now c.copy.new.to (omega arith) (omega (arith, c.requires.block_size_in_bounds)); }
+          c.requires.block_size_in_bounds c.requires.holds c.copy.ensures b h;
+      run_unchanged = part_spares 441 441 (441 + B - 441) a.run.now c.copy.new.to (omega arith) (omega (arith, c.requires.block_size_in_bounds));
+    }
 
 pub overflow_cast-last : goal.overflow_cast-last
 overflow_cast-last c = omega (arith, inside (goal.at.overflow_cast-last c).Start, c.requires.in_bounds)
@@ -70,11 +73,19 @@ multi_eval-requires c =
     let size : length (leading b) ≡ length b - 1 = length-take-le (length b - 1) b (omega arith) in
     let rows = rows_init a.words.now a.stretch.stride b (length b - 1) (rows_in B (length b) a.stretch.stride a.words.now b c.requires.subset c.requires.stretch_in.0) in
     let all : x + length (mid_of (441 + x) (441 + B - (441 + x)) a.run.now) ≡ B = omega (arith, inside (goal.at.multi_eval-requires c).Start, mid_len (441 + x) (441 + B) a.run.now c.requires.block_size_in_bounds) in
-    record { bits_len_bound = omega (arith, size, c.requires.in_bounds); rows_in = rows; within = c.requires.stretch_in.1; counts_bound = (omega (arith, all, c.requires.in_bounds), rw all c.requires.stretch_in.0); }
+    record {
+      bits_len_bound = omega (arith, size, c.requires.in_bounds);
+      rows_in = rows;
+      within = c.requires.stretch_in.1;
+      counts_bound = (omega (arith, all, c.requires.in_bounds), rw all c.requires.stretch_in.0);
+    }
 
 pub returns : goal.returns
 returns c =
     let a = c.args in
     let x = last_bit a.bits.now in
-    let B = a.stretch.block_size in record { by_index = counted_run (stretch_bit a.stretch a.words.now) (span a.stretch) B a.bits.now a.run.now c.multi_eval.new.counts
-          (inside (goal.at.returns c).Start) c.requires.block_size_in_bounds c.multi_eval.auto.counts c.multi_eval.ensures; run_unchanged = part_spares 441 (441 + x) (441 + B - (441 + x)) a.run.now c.multi_eval.new.counts (omega arith) (omega (arith, inside (goal.at.returns c).Start, c.requires.block_size_in_bounds)); }
+    let B = a.stretch.block_size in record {
+      by_index = counted_run (stretch_bit a.stretch a.words.now) (span a.stretch) B a.bits.now a.run.now c.multi_eval.new.counts
+          (inside (goal.at.returns c).Start) c.requires.block_size_in_bounds c.multi_eval.auto.counts c.multi_eval.ensures;
+      run_unchanged = part_spares 441 (441 + x) (441 + B - (441 + x)) a.run.now c.multi_eval.new.counts (omega arith) (omega (arith, inside (goal.at.returns c).Start, c.requires.block_size_in_bounds));
+    }

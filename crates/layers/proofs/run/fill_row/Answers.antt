@@ -66,4 +66,4 @@ returns c =
     let a = c.args in
     let all : c.loop-r.r ≡ a.most = omega arith in
     let row = subst (λ (r : ℕ). Row a.at a.m r a.run.now c.loop-r.run) all c.loop-r.invariant.2 in
-    record { by_index_2 = row.filled; by_index_3 = row.spared; }
+    record { by_index_2 = row.filled; by_index_3 = row.spared }

@@ -50,11 +50,14 @@ overflow_mul-i c = omega (arith, c.loop-i-test.true, c.requires.in_bounds)
 pub fill_row-requires : goal.fill_row-requires
 fill_row-requires c =
     let a = c.args in
-    let here = here_is (goal.at.fill_row-requires c).Joined-k-i in record { m_bound = (
+    let here = here_is (goal.at.fill_row-requires c).Joined-k-i in record {
+      m_bound = (
         omega (arith, c.requires.in_bounds),
         omega (arith, here, room (goal.at.fill_row-requires c).In-loop-i, c.loop-i-test.true),
         omega (arith, here, c.loop-i-test.true, c.requires.in_bounds, c.loop-i.invariant.2.tops.room),
-      ); by_index = λ r h. ways_fit a.block_size a.bits.now c.requires.subset c.requires.bits_bound c.loop-i.i r c.loop-i-test.true (omega (arith, here)); }
+      );
+      by_index = λ r h. ways_fit a.block_size a.bits.now c.requires.subset c.requires.bits_bound c.loop-i.i r c.loop-i-test.true (omega (arith, here));
+    }
 
 pub loop-i-smaller : goal.loop-i-smaller
 loop-i-smaller c = omega (arith, c.loop-i-test.true)

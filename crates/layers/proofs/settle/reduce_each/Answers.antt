@@ -17,7 +17,10 @@ loop-at-init c = through_none _ _
 
 pub reduce-requires : goal.reduce-requires
 reduce-requires c =
-    let a = c.args in record { step_in_bounds = run_fits a.step c.loop-at.at a.bins.now c.loop-at.bins c.requires.paired c.loop-at.invariant c.loop-at-test.true; by_index = run_falls a.step c.loop-at.at a.bins.now c.loop-at.bins c.requires.paired c.loop-at.invariant c.loop-at-test.true; }
+    let a = c.args in record {
+      step_in_bounds = run_fits a.step c.loop-at.at a.bins.now c.loop-at.bins c.requires.paired c.loop-at.invariant c.loop-at-test.true;
+      by_index = run_falls a.step c.loop-at.at a.bins.now c.loop-at.bins c.requires.paired c.loop-at.invariant c.loop-at-test.true;
+    }
 
 pub overflow_add-at : goal.overflow_add-at
 overflow_add-at c = omega (arith, fits c, c.loop-at.invariant.size, c.well_formed)

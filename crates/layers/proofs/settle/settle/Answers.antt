@@ -42,7 +42,10 @@ loop-i-init c = ((begins c).0, λ b₀ some st. st)
 pub reduce_each-requires : goal.reduce_each-requires
 reduce_each-requires c =
     let a = c.args in
-    let small : c.loop-i.i ≤ 20 = omega (arith, c.loop-i.invariant.0, c.requires.j_bound) in record { step_bound = omega (arith, step_is c, pow_mono small); paired = subst (λ (x : ℕ). Paired x c.loop-i.upper) (sym (step_is c)) (paired a.j a.upper.now c.requires.settles c.loop-i.i c.loop-i-test.true c.loop-i.upper (stage (goal.at.reduce_each-requires c).At-loop-i)); }
+    let small : c.loop-i.i ≤ 20 = omega (arith, c.loop-i.invariant.0, c.requires.j_bound) in record {
+      step_bound = omega (arith, step_is c, pow_mono small);
+      paired = subst (λ (x : ℕ). Paired x c.loop-i.upper) (sym (step_is c)) (paired a.j a.upper.now c.requires.settles c.loop-i.i c.loop-i-test.true c.loop-i.upper (stage (goal.at.reduce_each-requires c).At-loop-i));
+    }
 
 pub loop-i-preserved : goal.loop-i-preserved
 loop-i-preserved c =

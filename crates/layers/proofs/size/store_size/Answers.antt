@@ -36,12 +36,11 @@ pub loop-d-smaller : goal.loop-d-smaller
 loop-d-smaller c = omega (arith, c.loop-d-test.true)
 
 pub loop-d-preserved : goal.loop-d-preserved
-loop-d-preserved c =
-    (
-      omega (arith, c.loop-d-test.true),
-      omega (arith, added c, c.loop-d.invariant),
-      summed c.args.block_size c.loop-d.d c.choose_up_to-size.result c.loop-d.size c.choose_up_to-size.ensures c.loop-d.invariant.2,
-    )
+loop-d-preserved c = (
+  omega (arith, c.loop-d-test.true),
+  omega (arith, added c, c.loop-d.invariant),
+  summed c.args.block_size c.loop-d.d c.choose_up_to-size.result c.loop-d.size c.choose_up_to-size.ensures c.loop-d.invariant.2,
+)
 
 pub returns-then-size-gt4294967296 : goal.returns-then-size-gt4294967296
 returns-then-size-gt4294967296 c = omega (arith, whole (goal.at.returns-then-size-gt4294967296 c).After-loop-d, c.if-size-gt4294967296.true)

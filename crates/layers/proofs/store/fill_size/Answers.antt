@@ -81,17 +81,29 @@ pub bounds-bits-d : goal.bounds-bits-d
 bounds-bits-d c = omega (arith, c.requires.le_d)
 
 pub overflow_cast-last : goal.overflow_cast-last
-overflow_cast-last c = omega (arith, (let inside' : get_or c.loop-stretch.bits (c.args.d - 1) 0 < c.args.stretch.block_size = let a = c.args in
-    last_below a.stretch.block_size a.d (take (a.d - 1) c.loop-stretch.bits) (get_or c.loop-stretch.bits (a.d - 1) 0) c.requires.le_d.0 c.loop-stretch.invariant.1.current in inside'), c.requires.le_d)
+overflow_cast-last c = omega (
+  arith,
+  (let inside' : get_or c.loop-stretch.bits (c.args.d - 1) 0 < c.args.stretch.block_size = let a = c.args in
+      last_below a.stretch.block_size a.d (take (a.d - 1) c.loop-stretch.bits) (get_or c.loop-stretch.bits (a.d - 1) 0) c.requires.le_d.0 c.loop-stretch.invariant.1.current in inside'),
+  c.requires.le_d,
+)
 
 pub overflow_sub-end : goal.overflow_sub-end
-overflow_sub-end c = omega (arith, (let inside' : get_or c.loop-stretch.bits (c.args.d - 1) 0 < c.args.stretch.block_size = let a = c.args in
-    last_below a.stretch.block_size a.d (take (a.d - 1) c.loop-stretch.bits) (get_or c.loop-stretch.bits (a.d - 1) 0) c.requires.le_d.0 c.loop-stretch.invariant.1.current in inside'))
+overflow_sub-end c = omega (
+  arith,
+  (let inside' : get_or c.loop-stretch.bits (c.args.d - 1) 0 < c.args.stretch.block_size = let a = c.args in
+      last_below a.stretch.block_size a.d (take (a.d - 1) c.loop-stretch.bits) (get_or c.loop-stretch.bits (a.d - 1) 0) c.requires.le_d.0 c.loop-stretch.invariant.1.current in inside'),
+)
 
 pub overflow_add-end : goal.overflow_add-end
-overflow_add-end c = omega (arith, (let place' : let a = c.args in c.loop-stretch.at + (a.stretch.block_size - get_or c.loop-stretch.bits (a.d - 1) 0) ≤ length c.loop-stretch.store = in_store c.requires.le_d.0 (let room' : let a = c.args in a.start + choose a.stretch.block_size a.d ≤ length a.store.now = let a = c.args in
-    omega (arith, size_step a.stretch.block_size a.d c.requires.le_d.0, c.requires.start_value, c.requires.d_in_bounds) in room') c.loop-stretch.invariant.1 (let inside' : get_or c.loop-stretch.bits (c.args.d - 1) 0 < c.args.stretch.block_size = let a = c.args in
-    last_below a.stretch.block_size a.d (take (a.d - 1) c.loop-stretch.bits) (get_or c.loop-stretch.bits (a.d - 1) 0) c.requires.le_d.0 c.loop-stretch.invariant.1.current in inside') in place'), c.loop-stretch.invariant.1.written.size, c.well_formed)
+overflow_add-end c = omega (
+  arith,
+  (let place' : let a = c.args in c.loop-stretch.at + (a.stretch.block_size - get_or c.loop-stretch.bits (a.d - 1) 0) ≤ length c.loop-stretch.store = in_store c.requires.le_d.0 (let room' : let a = c.args in a.start + choose a.stretch.block_size a.d ≤ length a.store.now = let a = c.args in
+      omega (arith, size_step a.stretch.block_size a.d c.requires.le_d.0, c.requires.start_value, c.requires.d_in_bounds) in room') c.loop-stretch.invariant.1 (let inside' : get_or c.loop-stretch.bits (c.args.d - 1) 0 < c.args.stretch.block_size = let a = c.args in
+      last_below a.stretch.block_size a.d (take (a.d - 1) c.loop-stretch.bits) (get_or c.loop-stretch.bits (a.d - 1) 0) c.requires.le_d.0 c.loop-stretch.invariant.1.current in inside') in place'),
+  c.loop-stretch.invariant.1.written.size,
+  c.well_formed,
+)
 
 pub slice_bounds-bits-end : goal.slice_bounds-bits-end
 slice_bounds-bits-end c = omega (arith, c.requires.le_d, c.loop-stretch.invariant.0)
@@ -116,7 +128,12 @@ multi_eval-requires c =
     let p = take (a.d - 1) c.loop-stretch.bits in
     let x = get_or c.loop-stretch.bits (a.d - 1) 0 in
     let size : length p ≡ a.d - 1 = length-take-le (a.d - 1) c.loop-stretch.bits (omega (arith, array (goal.at.multi_eval-requires c).At-loop-stretch)) in
-    let all : x + length (mid_of c.loop-stretch.at (c.loop-stretch.at + (B - x) - c.loop-stretch.at) c.loop-stretch.store) ≡ B = omega (arith, inside (goal.at.multi_eval-requires c).At-loop-stretch, part_size c.requires.le_d.0 (room (goal.at.multi_eval-requires c).Start) c.loop-stretch.invariant.1 (inside (goal.at.multi_eval-requires c).At-loop-stretch)) in record { bits_len_bound = omega (arith, size, c.requires.le_d); rows_in = rows_leading B a.d a.stretch.stride a.words.now p x c.loop-stretch.invariant.1.current c.requires.stretch_in.0; within = c.requires.stretch_in.1; counts_bound = (omega (arith, all, c.requires.le_d), rw all c.requires.stretch_in.0); }
+    let all : x + length (mid_of c.loop-stretch.at (c.loop-stretch.at + (B - x) - c.loop-stretch.at) c.loop-stretch.store) ≡ B = omega (arith, inside (goal.at.multi_eval-requires c).At-loop-stretch, part_size c.requires.le_d.0 (room (goal.at.multi_eval-requires c).Start) c.loop-stretch.invariant.1 (inside (goal.at.multi_eval-requires c).At-loop-stretch)) in record {
+      bits_len_bound = omega (arith, size, c.requires.le_d);
+      rows_in = rows_leading B a.d a.stretch.stride a.words.now p x c.loop-stretch.invariant.1.current c.requires.stretch_in.0;
+      within = c.requires.stretch_in.1;
+      counts_bound = (omega (arith, all, c.requires.le_d), rw all c.requires.stretch_in.0);
+    }
 
 pub overflow_sub-bits : goal.overflow_sub-bits
 overflow_sub-bits c = omega (arith, inside (goal.at.overflow_sub-bits c).At-loop-stretch)
@@ -142,7 +159,11 @@ returns-then-not-successor c =
     let B = a.stretch.block_size in
     let none = subst (Last B a.d) (last_set a.d (B - 1) c.loop-stretch.bits c.requires.le_d.0 (array (goal.at.returns-then-not-successor c).At-loop-stretch)) (c.successor.ensures.last c.if-not-successor.true) in
     let w = all_written c.requires.le_d.0 (room (goal.at.returns-then-not-successor c).Start) c.loop-stretch.invariant.1 (inside (goal.at.returns-then-not-successor c).At-loop-stretch) _ (done (goal.at.returns-then-not-successor c).After-multi_eval) none in
-    let size : a.start + choose B a.d ≡ size_to B a.d = omega (arith, size_step B a.d c.requires.le_d.0, c.requires.start_value) in record { value = w.0 ∙ size; holds_to_2 = holds_width (stretch_bit a.stretch a.words.now) (span a.stretch) B a.d a.start a.store.now _ c.requires.le_d.0 c.requires.start_value (room (goal.at.returns-then-not-successor c).Start) c.requires.holds_to w.1; store_unchanged = rw (← size) w.1.rest; }
+    let size : a.start + choose B a.d ≡ size_to B a.d = omega (arith, size_step B a.d c.requires.le_d.0, c.requires.start_value) in record {
+      value = w.0 ∙ size;
+      holds_to_2 = holds_width (stretch_bit a.stretch a.words.now) (span a.stretch) B a.d a.start a.store.now _ c.requires.le_d.0 c.requires.start_value (room (goal.at.returns-then-not-successor c).Start) c.requires.holds_to w.1;
+      store_unchanged = rw (← size) w.1.rest;
+    }
 
 pub loop-stretch-smaller : goal.loop-stretch-smaller
 loop-stretch-smaller c =
@@ -151,8 +172,7 @@ loop-stretch-smaller c =
     run_falls c.requires.le_d.0 (room (goal.at.loop-stretch-smaller c).Start) c.loop-stretch.invariant.1 (inside (goal.at.loop-stretch-smaller c).At-loop-stretch) q y (stepped (goal.at.loop-stretch-smaller c).After-successor c.if-not-successor.false)
 
 pub loop-stretch-preserved : goal.loop-stretch-preserved
-loop-stretch-preserved c =
-    (
-      new_size (goal.at.loop-stretch-preserved c).After-successor,
-      next_run c.requires.le_d.0 (room (goal.at.loop-stretch-preserved c).Start) c.loop-stretch.invariant.1 (inside (goal.at.loop-stretch-preserved c).At-loop-stretch) _ (done (goal.at.loop-stretch-preserved c).After-multi_eval) _ _ (stepped (goal.at.loop-stretch-preserved c).After-successor c.if-not-successor.false),
-    )
+loop-stretch-preserved c = (
+  new_size (goal.at.loop-stretch-preserved c).After-successor,
+  next_run c.requires.le_d.0 (room (goal.at.loop-stretch-preserved c).Start) c.loop-stretch.invariant.1 (inside (goal.at.loop-stretch-preserved c).At-loop-stretch) _ (done (goal.at.loop-stretch-preserved c).After-multi_eval) _ _ (stepped (goal.at.loop-stretch-preserved c).After-successor c.if-not-successor.false),
+)

@@ -47,7 +47,13 @@ overflow_add-d c = omega (arith, (few (goal.at.overflow_add-d c).At-loop-d).0)
 pub fill_size-at-requires : goal.fill_size-at-requires
 fill_size-at-requires c =
     let e : c.loop-d.d + 1 - 1 ≡ c.loop-d.d = omega arith in
-    rw e (record { le_d = (omega arith, omega (arith, (few (goal.at.fill_size-at-requires c).At-loop-d).0, c.loop-d-test.true), omega (arith, (few (goal.at.fill_size-at-requires c).At-loop-d).1, c.loop-d-test.true), c.requires.le_k.3); stretch_in = c.requires.stretch_in; start_value = c.loop-d.invariant.1; d_in_bounds = omega (arith, within (goal.at.fill_size-at-requires c).In-loop-d, c.loop-d.invariant.2, c.requires.roomy.room); holds_to = c.loop-d.invariant.3; })
+    rw e (record {
+      le_d = (omega arith, omega (arith, (few (goal.at.fill_size-at-requires c).At-loop-d).0, c.loop-d-test.true), omega (arith, (few (goal.at.fill_size-at-requires c).At-loop-d).1, c.loop-d-test.true), c.requires.le_k.3);
+      stretch_in = c.requires.stretch_in;
+      start_value = c.loop-d.invariant.1;
+      d_in_bounds = omega (arith, within (goal.at.fill_size-at-requires c).In-loop-d, c.loop-d.invariant.2, c.requires.roomy.room);
+      holds_to = c.loop-d.invariant.3;
+    })
 
 pub overflow_sub-run : goal.overflow_sub-run
 overflow_sub-run c = omega (arith, c.fill_size-at.ensures.value, some (goal.at.overflow_sub-run c).In-loop-d)
@@ -91,7 +97,14 @@ returns c =
     let a = c.args in
     let B = a.stretch.block_size in
     let store = c.loop-d.store in
-    let all : c.loop-d.d ≡ widest a.k = omega (arith, c.widest-most.ensures, c.loop-d.invariant.0, c.loop-d-test.false) in record { holds = record {
+    let all : c.loop-d.d ≡ widest a.k = omega (arith, c.widest-most.ensures, c.loop-d.invariant.0, c.loop-d-test.false) in record {
+      holds = record {
         roomy = record { few = c.requires.roomy.few; room = omega (arith, c.requires.roomy.room, c.loop-d.invariant.2) };
         entries = subst (λ (d : ℕ). HoldsTo (stretch_bit a.stretch a.words.now) (span a.stretch) B d store) all c.loop-d.invariant.3;
-      }; store_unchanged = c.loop-d.invariant.4; tops = record { room = omega (arith, c.requires.block_size_in_bounds, c.loop-d.invariant.5); top = λ d pos h. c.loop-d.invariant.6 d pos (omega (arith, all)) }; }
+      };
+      store_unchanged = c.loop-d.invariant.4;
+      tops = record {
+        room = omega (arith, c.requires.block_size_in_bounds, c.loop-d.invariant.5);
+        top = λ d pos h. c.loop-d.invariant.6 d pos (omega (arith, all));
+      };
+    }

@@ -28,13 +28,12 @@ pub loop-i-init : goal.loop-i-init
 loop-i-init c = (refl, omega arith, λ j h l m. let f : ⊥ = omega arith in absurd f)
 
 pub loop-i-preserved : goal.loop-i-preserved
-loop-i-preserved c =
-    (
-      simp length-set c.loop-i.invariant.0,
-      omega arith,
-      filled_more c.args.n c.args.k c.loop-i.roots c.loop-i.i c.deviation.result
-          (c.deviation.ensures ∙ ap (deviation c.args.n) c.share.ensures) c.loop-i.invariant.2,
-    )
+loop-i-preserved c = (
+  simp length-set c.loop-i.invariant.0,
+  omega arith,
+  filled_more c.args.n c.args.k c.loop-i.roots c.loop-i.i c.deviation.result
+      (c.deviation.ensures ∙ ap (deviation c.args.n) c.share.ensures) c.loop-i.invariant.2,
+)
 
 pub shape_of-roots : goal.shape_of-roots
 shape_of-roots c = c.loop-i.invariant.0

@@ -7,4 +7,10 @@ use Rattle.replay.proofs.replay.refused_replay.Goals as goal
 pub returns : goal.returns
 returns c =
     let a = c.args in
-    ap (λ (q : Searched). record { refusal = a.refusal; refused = 0; layered = false; agree = false; finding = q.finding }) c.refused-searched.ensures
+    ap (λ (q : Searched). record {
+      refusal = a.refusal;
+      refused = 0;
+      layered = false;
+      agree = false;
+      finding = q.finding;
+    }) c.refused-searched.ensures

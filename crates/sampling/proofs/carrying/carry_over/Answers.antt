@@ -46,7 +46,7 @@ returns-then-refusal-ne0 c =
     let a = c.args in
     let is = c.earlier_refusal-refusal.ensures in
     let not : eqb (earlier_refusal a.earlier (length a.words.now)) 0 ≡ false = ne_eqb _ _ (λ z. c.if-refusal-ne0.true (is ∙ z)) in
-    record { value = simp not (λ i. record { refusal = is i; sampler = c.no_sampler.ensures i }); words_after = simp not refl; }
+    record { value = simp not (λ i. record { refusal = is i; sampler = c.no_sampler.ensures i }); words_after = simp not refl }
 
 pub nonzero_div-blocks-2 : goal.nonzero_div-blocks-2
 nonzero_div-blocks-2 c = omega (arith, (has (goal.at.nonzero_div-blocks-2 c).Else-refusal-ne0).size)
@@ -88,10 +88,19 @@ returns c =
     let bytes : c.read_bytes.new.to ++ drop left c.no_bytes-unfinished.result ≡ put none_yet 0 (list_of left f) =
     (λ i. read i ++ drop left (c.no_bytes-unfinished.ensures i))
     ∙ sym (put_first none_yet (list_of left f) ∙ ap (λ (k : ℕ). list_of left f ++ drop k none_yet) (length_list left f)) in
-    record { value = simp (none e) (λ i. record {
+    record {
+      value = simp (none e) (λ i. record {
         refusal = 0;
         sampler = record {
-          head = record { block_size = s.block_size; words = s.words; blocks = whole_of s; low_first = s.low_first; lengths = left ∷ 0 ∷ 0 ∷ 0 ∷ [] };
+          head = record {
+            block_size = s.block_size;
+            words = s.words;
+            blocks = whole_of s;
+            low_first = s.low_first;
+            lengths = left ∷ 0 ∷ 0 ∷ 0 ∷ [];
+          };
           unfinished = bytes i;
         };
-      }); words_after = simp (none e) c.clear_bits.ensures; }
+      });
+      words_after = simp (none e) c.clear_bits.ensures;
+    }

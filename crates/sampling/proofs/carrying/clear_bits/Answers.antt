@@ -30,7 +30,10 @@ overflow_add-b c = omega (arith, inside (goal.at.overflow_add-b c).In-loop-b, c.
 
 pub clear_bit-requires : goal.clear_bit-requires
 clear_bit-requires c =
-    record { i_in_bounds = omega (arith, inside (goal.at.clear_bit-requires c).In-loop-b, c.loop-b.invariant.2); k_bound = omega (arith, inside (goal.at.clear_bit-requires c).In-loop-b, c.loop-b.invariant.2); }
+    record {
+      i_in_bounds = omega (arith, inside (goal.at.clear_bit-requires c).In-loop-b, c.loop-b.invariant.2);
+      k_bound = omega (arith, inside (goal.at.clear_bit-requires c).In-loop-b, c.loop-b.invariant.2);
+    }
 
 pub overflow_add-b-in-loop-b : goal.overflow_add-b-in-loop-b
 overflow_add-b-in-loop-b c = omega arith

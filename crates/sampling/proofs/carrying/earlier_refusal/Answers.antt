@@ -28,7 +28,11 @@ returns-then-earlier-words c = simp (size_ok (goal.at.returns-then-earlier-words
 
 pub capacity_bytes-requires : goal.capacity_bytes-requires
 capacity_bytes-requires c =
-    record { le_block_size = omega (arith, valid_facts _ (size_ok (goal.at.capacity_bytes-requires c).Else-not-valid_block_size), c.requires); block_size_bound = omega (arith, valid_facts _ (size_ok (goal.at.capacity_bytes-requires c).Else-not-valid_block_size), c.requires); words_bound = omega (arith, valid_facts _ (size_ok (goal.at.capacity_bytes-requires c).Else-not-valid_block_size), c.requires); }
+    record {
+      le_block_size = omega (arith, valid_facts _ (size_ok (goal.at.capacity_bytes-requires c).Else-not-valid_block_size), c.requires);
+      block_size_bound = omega (arith, valid_facts _ (size_ok (goal.at.capacity_bytes-requires c).Else-not-valid_block_size), c.requires);
+      words_bound = omega (arith, valid_facts _ (size_ok (goal.at.capacity_bytes-requires c).Else-not-valid_block_size), c.requires);
+    }
 
 pub returns-then-earlier-capacity_bytes : goal.returns-then-earlier-capacity_bytes
 unfolding earlier_refusal

@@ -57,7 +57,11 @@ slice_bounds-put_bytes-end c = omega (arith, (has (goal.at.slice_bounds-put_byte
 
 pub put_bytes-requires : goal.put_bytes-requires
 put_bytes-requires c =
-    record { byte_lt_size = omega (arith, (has (goal.at.put_bytes-requires c).Start).fit); stride_in_bounds = (has (goal.at.put_bytes-requires c).Start).rows; bytes_bound = omega (arith, (has (goal.at.put_bytes-requires c).Start).lanes, part_long (goal.at.put_bytes-requires c).After-unfinished_on-t); }
+    record {
+      byte_lt_size = omega (arith, (has (goal.at.put_bytes-requires c).Start).fit);
+      stride_in_bounds = (has (goal.at.put_bytes-requires c).Start).rows;
+      bytes_bound = omega (arith, (has (goal.at.put_bytes-requires c).Start).lanes, part_long (goal.at.put_bytes-requires c).After-unfinished_on-t);
+    }
 
 pub slice_bounds-put_bytes-end-2 : goal.slice_bounds-put_bytes-end-2
 slice_bounds-put_bytes-end-2 c =
@@ -68,7 +72,11 @@ put_bytes-requires-2 c =
     let a = c.args in
     let same : length c.put_bytes.new.words ≡ length a.words.now = c.put_bytes.auto.words in
     let used : length (take a.used a.piece.now) ≡ a.used = length-take-le a.used a.piece.now (has (goal.at.put_bytes-requires-2 c).Start).used_in in
-    record { byte_lt_size = omega (arith, (has (goal.at.put_bytes-requires-2 c).Start).fit.short, is (goal.at.put_bytes-requires-2 c).After-unfinished_on-t); stride_in_bounds = omega (arith, (has (goal.at.put_bytes-requires-2 c).Start).rows, same); bytes_bound = omega (arith, (has (goal.at.put_bytes-requires-2 c).Start).lanes, used, is (goal.at.put_bytes-requires-2 c).After-unfinished_on-t); }
+    record {
+      byte_lt_size = omega (arith, (has (goal.at.put_bytes-requires-2 c).Start).fit.short, is (goal.at.put_bytes-requires-2 c).After-unfinished_on-t);
+      stride_in_bounds = omega (arith, (has (goal.at.put_bytes-requires-2 c).Start).rows, same);
+      bytes_bound = omega (arith, (has (goal.at.put_bytes-requires-2 c).Start).lanes, used, is (goal.at.put_bytes-requires-2 c).After-unfinished_on-t);
+    }
 
 pub slice_bounds-keep-count : goal.slice_bounds-keep-count
 slice_bounds-keep-count c = (has (goal.at.slice_bounds-keep-count c).Start).used_in
@@ -92,6 +100,9 @@ returns c =
     let tail = tail_of a.head a.unfinished.now a.board in
     let n = a.head.blocks * size in
     let first-put : c.put_bytes.new.words ≡ put_bytes a.head.low_first size S a.words.now n tail (length tail) =
-    c.put_bytes.ensures ∙ (λ i. put_bytes a.head.low_first size S a.words.now (add-zero n i) (part_is (goal.at.returns c).After-unfinished_on-t i) (length (part_is (goal.at.returns c).After-unfinished_on-t i))) in record { unfinished_after = c.keep.ensures ∙ (λ i. put (put a.unfinished.now at (left_is (goal.at.returns c).Start i)) (at + length (left_is (goal.at.returns c).Start i)) (replicate (t i - length (left_is (goal.at.returns c).Start i)) 0)) ∙ sym h.kept; words_after = c.put_bytes-2.ensures
+    c.put_bytes.ensures ∙ (λ i. put_bytes a.head.low_first size S a.words.now (add-zero n i) (part_is (goal.at.returns c).After-unfinished_on-t i) (length (part_is (goal.at.returns c).After-unfinished_on-t i))) in record {
+      unfinished_after = c.keep.ensures ∙ (λ i. put (put a.unfinished.now at (left_is (goal.at.returns c).Start i)) (at + length (left_is (goal.at.returns c).Start i)) (replicate (t i - length (left_is (goal.at.returns c).Start i)) 0)) ∙ sym h.kept;
+      words_after = c.put_bytes-2.ensures
           ∙ (λ i. put_bytes a.head.low_first size S (first-put i) (n + (t ∙ sym h.fit.tail_long) i) (take a.used a.piece.now) (length (take a.used a.piece.now)))
-          ∙ sym h.put_in; }
+          ∙ sym h.put_in;
+    }

@@ -21,4 +21,7 @@ returns c =
     let new = length a.piece.now in
     let fed = c.feed_lent-taken.ensures in
     let refusal = ap (λ (t : Taken). t.refusal) fed.value ∙ taken_refusal s words a.board new in
-    let head = n.ensures ∙ ap (next_head s a.board) fed.value ∙ sym (head_is s words a.board new) in record { value = (λ i. record { refusal = refusal i; sampler = record { head = head i; unfinished = fed.unfinished_after i } }); words_after = fed.words_after; }
+    let head = n.ensures ∙ ap (next_head s a.board) fed.value ∙ sym (head_is s words a.board new) in record {
+      value = (λ i. record { refusal = refusal i; sampler = record { head = head i; unfinished = fed.unfinished_after i } });
+      words_after = fed.words_after;
+    }

@@ -57,7 +57,10 @@ overflow_add-head c =
 
 pub capacity_blocks-requires : goal.capacity_blocks-requires
 capacity_blocks-requires c =
-    record { le_block_size = omega (arith, valid_facts _ (fit (goal.at.capacity_blocks-requires c).Else-board-gt3).valid, c.requires); words_bound = omega (arith, valid_facts _ (fit (goal.at.capacity_blocks-requires c).Else-board-gt3).valid, c.requires); }
+    record {
+      le_block_size = omega (arith, valid_facts _ (fit (goal.at.capacity_blocks-requires c).Else-board-gt3).valid, c.requires);
+      words_bound = omega (arith, valid_facts _ (fit (goal.at.capacity_blocks-requires c).Else-board-gt3).valid, c.requires);
+    }
 
 pub returns-then-head-done : goal.returns-then-head-done
 unfolding feed_refusal

@@ -1,5 +1,4 @@
 -- `feeding::next_head` meets its contract: each return rewrites with the refusal.
-use mathlib.Core.Bool.{false}
 use native.Mathlib.Omega.{arith}
 use borrow.Author.Tests.{ne_eqb, eq-eqb}
 use Rattle.sampling.specs.Feeding.{next_head}

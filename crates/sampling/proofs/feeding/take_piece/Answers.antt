@@ -65,7 +65,10 @@ write_bytes-requires c = omega (arith, (none (goal.at.write_bytes-requires c).Th
 
 pub returns-then-done-eq0 : goal.returns-then-done-eq0
 returns-then-done-eq0 c =
-    let a = c.args in record { unfinished_after = c.write_bytes.ensures ∙ ap (λ (m : ℕ). put a.unfinished.now (512 * a.board + m) a.piece.now) (is (goal.at.returns-then-done-eq0 c).After-unfinished_on-t) ∙ sym (none (goal.at.returns-then-done-eq0 c).Then-done-eq0).kept; words_after = sym (none (goal.at.returns-then-done-eq0 c).Then-done-eq0).words; }
+    let a = c.args in record {
+      unfinished_after = c.write_bytes.ensures ∙ ap (λ (m : ℕ). put a.unfinished.now (512 * a.board + m) a.piece.now) (is (goal.at.returns-then-done-eq0 c).After-unfinished_on-t) ∙ sym (none (goal.at.returns-then-done-eq0 c).Then-done-eq0).kept;
+      words_after = sym (none (goal.at.returns-then-done-eq0 c).Then-done-eq0).words;
+    }
 
 pub overflow_mul-done : goal.overflow_mul-done
 overflow_mul-done c =
@@ -78,7 +81,11 @@ overflow_sub-done c = (used (goal.at.overflow_sub-done c).Else-done-eq0).0
 
 pub complete-requires : goal.complete-requires
 complete-requires c =
-    record { unfinished_len = c.requires.unfinished_len; piece_value = c.requires.piece_value; completes = (used (goal.at.complete-requires c).Else-done-eq0).1; }
+    record {
+      unfinished_len = c.requires.unfinished_len;
+      piece_value = c.requires.piece_value;
+      completes = (used (goal.at.complete-requires c).Else-done-eq0).1;
+    }
 
 pub returns : goal.returns
-returns c = record { unfinished_after = c.complete.ensures.unfinished_after; words_after = (c.complete.ensures.words_after); }
+returns c = record { unfinished_after = c.complete.ensures.unfinished_after; words_after = (c.complete.ensures.words_after) }

@@ -28,7 +28,7 @@ pub put_bit-requires : goal.put_bit-requires
 put_bit-requires c =
     let r≤7 : c.loop-r.r ≤ 7 = omega arith in
     let far = mul-le-mul_right c.args.stride r≤7 in
-    record { i_in_bounds = omega (arith, c.requires); k_bound = omega (arith, c.requires); v_bound = omega (arith, c.requires); }
+    record { i_in_bounds = omega (arith, c.requires); k_bound = omega (arith, c.requires); v_bound = omega (arith, c.requires) }
 
 pub overflow_add-i : goal.overflow_add-i
 overflow_add-i c =

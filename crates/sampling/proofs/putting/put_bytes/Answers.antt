@@ -48,7 +48,10 @@ overflow_add-place c = omega (arith, here (goal.at.overflow_add-place c).At-loop
 
 pub put_byte-requires : goal.put_byte-requires
 put_byte-requires c =
-    record { stride_in_bounds = omega (arith, here (goal.at.put_byte-requires c).At-loop-n c.loop-n-test.true, c.loop-n.invariant.2); k_bound = omega (arith, here (goal.at.put_byte-requires c).At-loop-n c.loop-n-test.true, c.loop-n.invariant.2); }
+    record {
+      stride_in_bounds = omega (arith, here (goal.at.put_byte-requires c).At-loop-n c.loop-n-test.true, c.loop-n.invariant.2);
+      k_bound = omega (arith, here (goal.at.put_byte-requires c).At-loop-n c.loop-n-test.true, c.loop-n.invariant.2);
+    }
 
 pub next_place-place-requires : goal.next_place-place-requires
 next_place-place-requires c =

@@ -35,7 +35,10 @@ returns-then-sampler-words c = simp (size_ok (goal.at.returns-then-sampler-words
 
 pub capacity_blocks-requires : goal.capacity_blocks-requires
 capacity_blocks-requires c =
-    record { le_block_size = omega (arith, valid_facts _ (size_ok (goal.at.capacity_blocks-requires c).Else-not-valid_block_size), c.requires); words_bound = omega (arith, valid_facts _ (size_ok (goal.at.capacity_blocks-requires c).Else-not-valid_block_size), c.requires); }
+    record {
+      le_block_size = omega (arith, valid_facts _ (size_ok (goal.at.capacity_blocks-requires c).Else-not-valid_block_size), c.requires);
+      words_bound = omega (arith, valid_facts _ (size_ok (goal.at.capacity_blocks-requires c).Else-not-valid_block_size), c.requires);
+    }
 
 pub returns-then-sampler-capacity_blocks : goal.returns-then-sampler-capacity_blocks
 unfolding sampler_refusal

@@ -11,7 +11,7 @@ pub returns-then-not-valid_block_size : goal.returns-then-not-valid_block_size
 unfolding started_of started_words
 returns-then-not-valid_block_size c =
     let bad : valid_size c.args.block_size ≡ false = sym c.valid_block_size.ensures ∙ c.if-not-valid_block_size.true in
-    record { value = simp bad (λ i. record { refusal = 1; sampler = c.no_sampler.ensures i }); words_after = simp bad refl; }
+    record { value = simp bad (λ i. record { refusal = 1; sampler = c.no_sampler.ensures i }); words_after = simp bad refl }
 
 pub returns : goal.returns
 unfolding started_of started_words
@@ -19,10 +19,19 @@ returns c =
     let a = c.args in
     let good : valid_size a.block_size ≡ true = sym c.valid_block_size.ensures ∙ c.if-not-valid_block_size.false in
     let same : length c.clear.new.words ≡ length a.words.now = c.clear.auto.words in
-    record { value = simp good (λ i. record {
+    record {
+      value = simp good (λ i. record {
         refusal = 0;
         sampler = record {
-          head = record { block_size = a.block_size; words = same i; blocks = 0; low_first = a.low_first; lengths = 0 ∷ 0 ∷ 0 ∷ 0 ∷ [] };
+          head = record {
+            block_size = a.block_size;
+            words = same i;
+            blocks = 0;
+            low_first = a.low_first;
+            lengths = 0 ∷ 0 ∷ 0 ∷ 0 ∷ [];
+          };
           unfinished = c.no_bytes-unfinished.ensures i;
         };
-      }); words_after = simp good c.clear.ensures; }
+      });
+      words_after = simp good c.clear.ensures;
+    }

@@ -13,7 +13,9 @@ radicand c =
     let e = c.args.e in
     let p = c.requires in
     elim c.if-e-eq1.branch [
-      then-e-eq1 w ↦ rw w.a-is (odd_radicand m e p.0 p.1 w.if-e-eq1.true) | else-e-eq1 w ↦ rw w.a-is (even_radicand m e p.0 p.1 w.if-e-eq1.false) ]
+      | then-e-eq1 w ↦ rw w.a-is (odd_radicand m e p.0 p.1 w.if-e-eq1.true)
+      | else-e-eq1 w ↦ rw w.a-is (even_radicand m e p.0 p.1 w.if-e-eq1.false)
+    ]
 
 root_of : (c : After-root_digits) → Root (c.if-e-eq1.a * 2 ^ 54) c.root_digits.result
 root_of c = c.root_digits.ensures.0

@@ -25,24 +25,44 @@ slice_bounds-multi_eval_neg-end-then-store-eq0 c = sym (part (goal.at.slice_boun
 
 pub multi_eval_neg-requires : goal.multi_eval_neg-requires
 multi_eval_neg-requires c =
-    let a = c.args in record { in_bounds = (c.requires.searchable.some, c.requires.searchable.width, part (goal.at.multi_eval_neg-requires c).After-bin_count-m ∙ c.bin_count-m.ensures); rows_in = rows_in a.stretch.block_size (length a.bits.now) a.stretch.stride a.words.now a.bits.now c.requires.subset c.requires.searchable.rows.0; within = c.requires.searchable.rows.1; }
+    let a = c.args in record {
+      in_bounds = (c.requires.searchable.some, c.requires.searchable.width, part (goal.at.multi_eval_neg-requires c).After-bin_count-m ∙ c.bin_count-m.ensures);
+      rows_in = rows_in a.stretch.block_size (length a.bits.now) a.stretch.stride a.words.now a.bits.now c.requires.subset c.requires.searchable.rows.0;
+      within = c.requires.searchable.rows.1;
+    }
 
 pub few_bins-requires : goal.few_bins-requires
 few_bins-requires c =
     let few : length c.args.bits.now ≤ 2 = omega (arith, c.if-bits-lt3.true) in
-    record { in_bounds = (c.requires.searchable.some, few, c.requires.searchable.rows.1); subset = c.requires.subset; holds = c.requires.from_store.holds (some (goal.at.few_bins-requires c).Else-store-eq0); run = c.requires.ready.stands (some (goal.at.few_bins-requires c).Else-store-eq0); bits_in_bounds = c.requires.buffer_room.0; }
+    record {
+      in_bounds = (c.requires.searchable.some, few, c.requires.searchable.rows.1);
+      subset = c.requires.subset;
+      holds = c.requires.from_store.holds (some (goal.at.few_bins-requires c).Else-store-eq0);
+      run = c.requires.ready.stands (some (goal.at.few_bins-requires c).Else-store-eq0);
+      bits_in_bounds = c.requires.buffer_room.0;
+    }
 
 pub compute_bins-requires : goal.compute_bins-requires
 compute_bins-requires c =
     let ready = c.requires.ready in
     let room = c.requires.buffer_room in
     let many : 3 ≤ length c.args.bits.now = omega (arith, c.if-bits-lt3.false) in
-    record { in_bounds = (many, c.requires.searchable.width); subset = c.requires.subset; holds = c.requires.from_store.holds (some (goal.at.compute_bins-requires c).Else-store-eq0); run = ready.stands (some (goal.at.compute_bins-requires c).Else-store-eq0); shared = ready.shared (some (goal.at.compute_bins-requires c).Else-store-eq0); bits_in_bounds = (room.1, room.0); }
+    record {
+      in_bounds = (many, c.requires.searchable.width);
+      subset = c.requires.subset;
+      holds = c.requires.from_store.holds (some (goal.at.compute_bins-requires c).Else-store-eq0);
+      run = ready.stands (some (goal.at.compute_bins-requires c).Else-store-eq0);
+      shared = ready.shared (some (goal.at.compute_bins-requires c).Else-store-eq0);
+      bits_in_bounds = (room.1, room.0);
+    }
 
 pub returns-then-store-eq0 : goal.returns-then-store-eq0
 returns-then-store-eq0 c =
-    let a = c.args in record { bins_after = ap (λ (l : List ℕ). l ++ drop c.bin_count-m.result a.bins.now) c.multi_eval_neg.ensures
-          ∙ ap (λ (x : ℕ). counts_of (stretch_bit a.stretch a.words.now) (span a.stretch) a.bits.now ++ drop x a.bins.now) c.bin_count-m.ensures; order_unchanged = refl; }
+    let a = c.args in record {
+      bins_after = ap (λ (l : List ℕ). l ++ drop c.bin_count-m.result a.bins.now) c.multi_eval_neg.ensures
+          ∙ ap (λ (x : ℕ). counts_of (stretch_bit a.stretch a.words.now) (span a.stretch) a.bits.now ++ drop x a.bins.now) c.bin_count-m.ensures;
+      order_unchanged = refl;
+    }
 
 pub returns-then-bits-lt3 : goal.returns-then-bits-lt3
-returns-then-bits-lt3 c = record { bins_after = c.few_bins.ensures; order_unchanged = refl; }
+returns-then-bits-lt3 c = record { bins_after = c.few_bins.ensures; order_unchanged = refl }

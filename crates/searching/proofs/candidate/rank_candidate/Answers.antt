@@ -26,7 +26,13 @@ first_are c =
 
 pub fill_bins-requires : goal.fill_bins-requires
 fill_bins-requires c =
-    record { searchable = c.requires.searchable; subset = c.requires.subset; from_store = c.requires.from_store; ready = c.requires.ready; buffer_room = c.requires.buffer_room; }
+    record {
+      searchable = c.requires.searchable;
+      subset = c.requires.subset;
+      from_store = c.requires.from_store;
+      ready = c.requires.ready;
+      buffer_room = c.requires.buffer_room;
+    }
 
 pub span-requires : goal.span-requires
 span-requires c = c.requires.searchable.rows.1
@@ -49,4 +55,8 @@ pub returns : goal.returns
 returns c =
     let n = c.span.ensures in
     let a = c.args in
-    let are = first_are (goal.at.returns c).After-fill_bins in record { value = c.from_bins-ranking.ensures.0 ∙ ap₂ (λ (m : ℕ) (l : List ℕ). score_of m (length a.bits.now) l) n are; bins_after = c.fill_bins.ensures.bins_after; order_after = c.from_bins-ranking.ensures.1 ∙ ap₂ (λ (l rest : List ℕ). order_of l ++ rest) are c.fill_bins.ensures.order_unchanged; }
+    let are = first_are (goal.at.returns c).After-fill_bins in record {
+      value = c.from_bins-ranking.ensures.0 ∙ ap₂ (λ (m : ℕ) (l : List ℕ). score_of m (length a.bits.now) l) n are;
+      bins_after = c.fill_bins.ensures.bins_after;
+      order_after = c.from_bins-ranking.ensures.1 ∙ ap₂ (λ (l rest : List ℕ). order_of l ++ rest) are c.fill_bins.ensures.order_unchanged;
+    }

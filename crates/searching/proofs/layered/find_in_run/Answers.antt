@@ -9,11 +9,19 @@ use Rattle.searching.proofs.layered.find_in_run.Goals as goal
 pub find-requires : goal.find-requires
 find-requires c =
     let r = c.fill_store.ensures in
-    record { searchable = c.requires.searchable; from_store = record { holds = λ _. r.holds }; space = λ _. r.tops; buffer_room = c.requires.buffer_room; }
+    record {
+      searchable = c.requires.searchable;
+      from_store = record { holds = λ _. r.holds };
+      space = λ _. r.tops;
+      buffer_room = c.requires.buffer_room;
+    }
 
 pub returns : goal.returns
 returns c =
     let a = c.args in
     let r = c.fill_store.ensures in
     -- what it holds first, and past that what was there
-    record { won = c.find.ensures; store_after = sym (take-append-drop (store_size a.stretch.block_size a.k) c.fill_store.new.store) ∙ ap₂ (λ (l rest : List ℕ). l ++ rest) r.holds.entries r.store_unchanged; }
+    record {
+      won = c.find.ensures;
+      store_after = sym (take-append-drop (store_size a.stretch.block_size a.k) c.fill_store.new.store) ∙ ap₂ (λ (l rest : List ℕ). l ++ rest) r.holds.entries r.store_unchanged;
+    }

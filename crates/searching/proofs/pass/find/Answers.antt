@@ -13,4 +13,10 @@ pub find_with-requires : goal.find_with-requires
 find_with-requires c =
     let m = c.table_size-size.result in
     let small : length (take m c.no_roots-roots.result) ≤ 256 = omega (arith, length-take m c.no_roots-roots.result, c.table_size-size.ensures) in
-    record { roots_len_bound = small; searchable = c.requires.searchable; from_store = c.requires.from_store; space = c.requires.space; buffer_room = c.requires.buffer_room; }
+    record {
+      roots_len_bound = small;
+      searchable = c.requires.searchable;
+      from_store = c.requires.from_store;
+      space = c.requires.space;
+      buffer_room = c.requires.buffer_room;
+    }

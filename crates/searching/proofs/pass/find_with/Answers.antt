@@ -37,7 +37,13 @@ size w = ap length (is_winner w) ∙ (let winner_is' : Subset w.args.stretch.blo
 
 pub pick-bits-requires : goal.pick-bits-requires
 pick-bits-requires c =
-    record { searchable = c.requires.searchable; from_store = c.requires.from_store; space = c.requires.space; buffer_room = c.requires.buffer_room; roots = roots (goal.at.pick-bits-requires c).After-fill_roots; }
+    record {
+      searchable = c.requires.searchable;
+      from_store = c.requires.from_store;
+      space = c.requires.space;
+      buffer_room = c.requires.buffer_room;
+      roots = roots (goal.at.pick-bits-requires c).After-fill_roots;
+    }
 
 pub slice_bounds-begin-end : goal.slice_bounds-begin-end
 slice_bounds-begin-end c = sym (size (goal.at.slice_bounds-begin-end c).After-pick-bits)
@@ -46,7 +52,13 @@ pub begin-requires : goal.begin-requires
 begin-requires c =
     let counted : 2 ^ c.args.k ≤ length c.pick-bits.new.bins = omega (arith, c.requires.buffer_room, c.pick-bits.auto) in
     let ordered : 2 ^ c.args.k ≤ length c.pick-bits.new.order = omega (arith, c.requires.buffer_room, c.pick-bits.auto) in
-    rw (is_winner (goal.at.begin-requires c).After-pick-bits, (winner_is (goal.at.begin-requires c).Start).size) (record { searchable = c.requires.searchable; subset = winner_is (goal.at.begin-requires c).Start; from_store = c.requires.from_store; space = c.pick-bits.ensures.space_2; buffer_room = (counted, ordered); })
+    rw (is_winner (goal.at.begin-requires c).After-pick-bits, (winner_is (goal.at.begin-requires c).Start).size) (record {
+      searchable = c.requires.searchable;
+      subset = winner_is (goal.at.begin-requires c).Start;
+      from_store = c.requires.from_store;
+      space = c.pick-bits.ensures.space_2;
+      buffer_room = (counted, ordered);
+    })
 
 pub slice_bounds-bits-end-2 : goal.slice_bounds-bits-end-2
 slice_bounds-bits-end-2 c = omega (arith, size (goal.at.slice_bounds-bits-end-2 c).After-pick-bits, length-take c.args.k c.pick-bits.result)
@@ -60,7 +72,14 @@ rank_candidate-ranking-requires c =
     let won : Subset c.args.stretch.block_size c.args.k (take c.args.k c.pick-bits.result) = rw (is_winner (goal.at.rank_candidate-ranking-requires c).After-pick-bits) (winner_is (goal.at.rank_candidate-ranking-requires c).Start) in
     let counted : 2 ^ c.args.k ≤ length c.begin.new.bins = omega (arith, c.requires.buffer_room, c.pick-bits.auto, c.begin.auto) in
     let ordered : 2 ^ c.args.k ≤ length c.begin.new.order = omega (arith, c.requires.buffer_room, c.pick-bits.auto, c.begin.auto) in
-    record { searchable = rw k c.requires.searchable; subset = rw k won; from_store = rw k c.requires.from_store; ready = c.begin.ensures.ready; buffer_room = rw k (counted, ordered); roots = rw k (roots (goal.at.rank_candidate-ranking-requires c).After-fill_roots); }
+    record {
+      searchable = rw k c.requires.searchable;
+      subset = rw k won;
+      from_store = rw k c.requires.from_store;
+      ready = c.begin.ensures.ready;
+      buffer_room = rw k (counted, ordered);
+      roots = rw k (roots (goal.at.rank_candidate-ranking-requires c).After-fill_roots);
+    }
 
 pub shape_of-roots : goal.shape_of-roots
 shape_of-roots c = c.fill_roots.auto.roots

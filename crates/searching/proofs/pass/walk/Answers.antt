@@ -114,7 +114,13 @@ slice_bounds-begin-end c = sym (is_first (goal.at.slice_bounds-begin-end c).Afte
 
 pub begin-requires : goal.begin-requires
 begin-requires c =
-    rw (is_first (goal.at.begin-requires c).After-first-bits).size (record { searchable = c.requires.searchable; subset = is_first (goal.at.begin-requires c).After-first-bits; from_store = c.requires.from_store; space = c.requires.space; buffer_room = c.requires.buffer_room; })
+    rw (is_first (goal.at.begin-requires c).After-first-bits).size (record {
+      searchable = c.requires.searchable;
+      subset = is_first (goal.at.begin-requires c).After-first-bits;
+      from_store = c.requires.from_store;
+      space = c.requires.space;
+      buffer_room = c.requires.buffer_room;
+    })
 
 pub slice_bounds-bits-end-2 : goal.slice_bounds-bits-end-2
 slice_bounds-bits-end-2 c =
@@ -128,7 +134,14 @@ rank_candidate-ranking-requires c =
     let size = (is_first (goal.at.rank_candidate-ranking-requires c).After-first-bits).size in
     let counted : 2 ^ c.args.k ≤ length c.begin.new.bins = omega (arith, c.requires.buffer_room, c.begin.auto) in
     let ordered : 2 ^ c.args.k ≤ length c.begin.new.order = omega (arith, c.requires.buffer_room, c.begin.auto) in
-    record { searchable = rw size c.requires.searchable; subset = rw size (is_first (goal.at.rank_candidate-ranking-requires c).After-first-bits); from_store = rw size c.requires.from_store; ready = c.begin.ensures.ready; buffer_room = rw size (counted, ordered); roots = rw size c.requires.roots; }
+    record {
+      searchable = rw size c.requires.searchable;
+      subset = rw size (is_first (goal.at.rank_candidate-ranking-requires c).After-first-bits);
+      from_store = rw size c.requires.from_store;
+      ready = c.begin.ensures.ready;
+      buffer_room = rw size (counted, ordered);
+      roots = rw size c.requires.roots;
+    }
 
 pub loop-stretch-init : goal.loop-stretch-init
 loop-stretch-init c =
@@ -149,7 +162,14 @@ slice_bounds-step-end c = sym c.loop-stretch.invariant.0.size
 
 pub step-requires : goal.step-requires
 step-requires c =
-    record { searchable = c.requires.searchable; subset = c.loop-stretch.invariant.0.sofar.current; from_store = c.requires.from_store; standing = c.loop-stretch.invariant.6; buffer_room = room (goal.at.step-requires c).At-loop-stretch; bins_value = c.loop-stretch.invariant.7; }
+    record {
+      searchable = c.requires.searchable;
+      subset = c.loop-stretch.invariant.0.sofar.current;
+      from_store = c.requires.from_store;
+      standing = c.loop-stretch.invariant.6;
+      buffer_room = room (goal.at.step-requires c).At-loop-stretch;
+      bins_value = c.loop-stretch.invariant.7;
+    }
 
 pub slice_bounds-bits-end-in-loop-stretch : goal.slice_bounds-bits-end-in-loop-stretch
 slice_bounds-bits-end-in-loop-stretch c =
@@ -164,7 +184,14 @@ rank_candidate-next-requires c =
     let size = X.size in
     let counted : 2 ^ c.args.k ≤ length c.step.new.bins = omega (arith, room (goal.at.rank_candidate-next-requires c).At-loop-stretch, c.step.auto) in
     let ordered : 2 ^ c.args.k ≤ length c.step.new.order = omega (arith, room (goal.at.rank_candidate-next-requires c).At-loop-stretch, c.step.auto) in
-    record { searchable = rw size c.requires.searchable; subset = rw size X; from_store = rw size c.requires.from_store; ready = c.step.ensures.ready c.loop-stretch-test.true; buffer_room = rw size (counted, ordered); roots = rw size c.requires.roots; }
+    record {
+      searchable = rw size c.requires.searchable;
+      subset = rw size X;
+      from_store = rw size c.requires.from_store;
+      ready = c.step.ensures.ready c.loop-stretch-test.true;
+      buffer_room = rw size (counted, ordered);
+      roots = rw size c.requires.roots;
+    }
 
 pub loop-stretch-smaller-then-z-next : goal.loop-stretch-smaller-then-z-next
 loop-stretch-smaller-then-z-next c = less (goal.at.loop-stretch-smaller-then-z-next c).After-step c.loop-stretch-test.true
@@ -222,5 +249,9 @@ pub returns : goal.returns
 returns c =
     let a = c.args in
     let g = c.step in
-    let past = g.ensures.past_same in record { value = ends (bit (goal.at.returns c).Start) (span a.stretch) a.stretch.block_size a.k c.requires.searchable.chosen c.requires.searchable.width c.loop-stretch.bits c.loop-stretch.best g.new.bits c.loop-stretch.z c.loop-stretch.invariant.0
-          g.auto.bits g.result g.ensures.stepped c.loop-stretch-test.false; space_2 = g.ensures.space; past_same = (past.0 ∙ c.loop-stretch.invariant.3 ∙ (before_loop (goal.at.returns c).At-loop-stretch).0, past.1 ∙ c.loop-stretch.invariant.5 ∙ (before_loop (goal.at.returns c).At-loop-stretch).1); }
+    let past = g.ensures.past_same in record {
+      value = ends (bit (goal.at.returns c).Start) (span a.stretch) a.stretch.block_size a.k c.requires.searchable.chosen c.requires.searchable.width c.loop-stretch.bits c.loop-stretch.best g.new.bits c.loop-stretch.z c.loop-stretch.invariant.0
+          g.auto.bits g.result g.ensures.stepped c.loop-stretch-test.false;
+      space_2 = g.ensures.space;
+      past_same = (past.0 ∙ c.loop-stretch.invariant.3 ∙ (before_loop (goal.at.returns c).At-loop-stretch).0, past.1 ∙ c.loop-stretch.invariant.5 ∙ (before_loop (goal.at.returns c).At-loop-stretch).1);
+    }

@@ -38,7 +38,10 @@ pub search_stretch-finding-requires : goal.search_stretch-finding-requires
 search_stretch-finding-requires c =
     let x = c.stretch_of-stretch in
     let a = c.args in
-    record { searchable = searchable a.sampler (length a.words.now) a.first a.end a.k x.result x.ensures (free (goal.at.search_stretch-finding-requires c).Else-refusal-ne0).search; buffer_room = (free (goal.at.search_stretch-finding-requires c).Else-refusal-ne0).room; }
+    record {
+      searchable = searchable a.sampler (length a.words.now) a.first a.end a.k x.result x.ensures (free (goal.at.search_stretch-finding-requires c).Else-refusal-ne0).search;
+      buffer_room = (free (goal.at.search_stretch-finding-requires c).Else-refusal-ne0).room;
+    }
 
 pub returns : goal.returns
 returns c =

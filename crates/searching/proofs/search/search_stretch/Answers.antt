@@ -28,12 +28,22 @@ store_suffices-requires c =
 pub brute_force-requires : goal.brute_force-requires
 brute_force-requires c =
     let a = c.args in
-    record { searchable = c.requires.searchable; roomy = (suffices_roomy a.stretch.block_size a.k (length a.store.now)).roomy (enough (goal.at.brute_force-requires c).Then-store_suffices); buffer_room = c.requires.buffer_room; }
+    record {
+      searchable = c.requires.searchable;
+      roomy = (suffices_roomy a.stretch.block_size a.k (length a.store.now)).roomy (enough (goal.at.brute_force-requires c).Then-store_suffices);
+      buffer_room = c.requires.buffer_room;
+    }
 
 pub returns-then-store_suffices : goal.returns-then-store_suffices
 returns-then-store_suffices c =
-    record { won = c.brute_force.ensures.won; store_after = c.brute_force.ensures.store_after ∙ ap (left_by (goal.at.returns-then-store_suffices c).Start) (sym (enough (goal.at.returns-then-store_suffices c).Then-store_suffices)); }
+    record {
+      won = c.brute_force.ensures.won;
+      store_after = c.brute_force.ensures.store_after ∙ ap (left_by (goal.at.returns-then-store_suffices c).Start) (sym (enough (goal.at.returns-then-store_suffices c).Then-store_suffices));
+    }
 
 pub returns : goal.returns
 returns c =
-    record { won = c.brute_force_threads.ensures; store_after = ap (left_by (goal.at.returns c).Start) (sym c.if-store_suffices.false ∙ c.store_suffices.ensures); }
+    record {
+      won = c.brute_force_threads.ensures;
+      store_after = ap (left_by (goal.at.returns c).Start) (sym c.if-store_suffices.false ∙ c.store_suffices.ensures);
+    }

@@ -57,4 +57,7 @@ loop-i-preserved c =
 pub returns : goal.returns
 returns c =
     let a = c.args in
-    let all : c.loop-i.i ≡ length a.values.now = omega arith in record { value = c.loop-i.invariant.1 ∙ ap (λ (i : ℕ). a.at + a.width * i) all; out_after = c.loop-i.invariant.0 ∙ fields_all a.out.now a.at a.width a.values.now c.loop-i.i all; }
+    let all : c.loop-i.i ≡ length a.values.now = omega arith in record {
+      value = c.loop-i.invariant.1 ∙ ap (λ (i : ℕ). a.at + a.width * i) all;
+      out_after = c.loop-i.invariant.0 ∙ fields_all a.out.now a.at a.width a.values.now c.loop-i.i all;
+    }

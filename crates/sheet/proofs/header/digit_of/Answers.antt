@@ -10,7 +10,10 @@ returns-then-c-lt48 c = record { value = simp (lt-leb _ _ c.if-c-lt48.true); upp
 
 pub returns-then-c-gt57 : goal.returns-then-c-gt57
 unfolding digit_of
-returns-then-c-gt57 c = record { value = simp (le-leb _ _ c.if-c-lt48.false, lt-leb _ _ c.if-c-gt57.true); upper_bound = omega arith; }
+returns-then-c-gt57 c = record {
+  value = simp (le-leb _ _ c.if-c-lt48.false, lt-leb _ _ c.if-c-gt57.true);
+  upper_bound = omega arith;
+}
 
 pub returns : goal.returns
 unfolding digit_of

@@ -26,7 +26,10 @@ slice_bounds-put_lines-end-2 c = sym (length-take-le _ c.wide-bits.result (width
 
 pub put_lines-requires : goal.put_lines-requires
 put_lines-requires c =
-    record { counts_len = (refl, refl); bits_in_bounds = rw (length-take-le _ c.wide-bits.result (width_fits (goal.at.put_lines-requires c).After-bits-1)) c.requires.k_in_bounds; }
+    record {
+      counts_len = (refl, refl);
+      bits_in_bounds = rw (length-take-le _ c.wide-bits.result (width_fits (goal.at.put_lines-requires c).After-bits-1)) c.requires.k_in_bounds;
+    }
 
 pub returns : goal.returns
 returns c =
@@ -35,4 +38,7 @@ returns c =
     let bits : List ℕ = c.wide-bits.result in
     let same = lines_are a.block_size a.k a.training.now a.testing.now c.requires.judgeable c.judge-judged.result c.judge-judged.ensures bits c.wide-bits.ensures
     c.pattern.result c.pattern-2.result c.pattern.ensures c.pattern-2.ensures in
-    let long = lines_length a.block_size a.k a.training.now a.testing.now c.requires.judgeable in record { value = lined.ensures.value ∙ ap (λ (n : ℕ). 91 + 8 * n) (length-take-le a.k bits (width_fits (goal.at.returns c).After-bits-1)) ∙ sym long; out_after = lined.ensures.out_after ∙ ap (put a.out.now 0) same; }
+    let long = lines_length a.block_size a.k a.training.now a.testing.now c.requires.judgeable in record {
+      value = lined.ensures.value ∙ ap (λ (n : ℕ). 91 + 8 * n) (length-take-le a.k bits (width_fits (goal.at.returns c).After-bits-1)) ∙ sym long;
+      out_after = lined.ensures.out_after ∙ ap (put a.out.now 0) same;
+    }

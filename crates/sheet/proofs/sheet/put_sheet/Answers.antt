@@ -77,7 +77,10 @@ slice_bounds-raw-start c = let h = (has (goal.at.slice_bounds-raw-start c).Start
 pub put_judged-requires : goal.put_judged-requires
 put_judged-requires c =
     let j = judgeable (s (goal.at.put_judged-requires c).After-second_part-testing) (has (goal.at.put_judged-requires c).Start) in
-    record { judgeable = judgeable_as (block_is (goal.at.put_judged-requires c).After-second_part-testing) (width_is (goal.at.put_judged-requires c).After-second_part-testing) (training_is (goal.at.put_judged-requires c).After-second_part-testing) (testing_is (goal.at.put_judged-requires c).After-second_part-testing) j; k_in_bounds = c.if-out-k.false; }
+    record {
+      judgeable = judgeable_as (block_is (goal.at.put_judged-requires c).After-second_part-testing) (width_is (goal.at.put_judged-requires c).After-second_part-testing) (training_is (goal.at.put_judged-requires c).After-second_part-testing) (testing_is (goal.at.put_judged-requires c).After-second_part-testing) j;
+      k_in_bounds = c.if-out-k.false;
+    }
 
 pub returns : goal.returns
 returns c =

@@ -1,4 +1,3 @@
-use Rattle.std.proofs.Common.{length}
 use Rattle.subsets.proofs.stepping.+successor.Given as goal
 
 abbrev pub decreases-successor : goal.decreases-successor

@@ -30,6 +30,10 @@ returns c =
     ap (λ (e : Evaluated). e.positive) c.evaluate_histogram-evaluated.ensures.value ∙ evaluated_positive f a.order.now a.testing.now (length a.scratch.now) c.requires.taken in
     let chance : c.bracket-chance.result ≡ bracket_of n (positive_in f a.order.now a.testing.now) f.width f.division (length a.entries.now) =
     c.bracket-chance.ensures.value ∙ ap (λ (x : ℕ). bracket_of n x f.width f.division (length a.entries.now)) positive in
-    let ends : c.bracket-chance.result ≡ record { refusal = 0; low = low_of n (positive_in f a.order.now a.testing.now) f.width f.division; high = high_of n (positive_in f a.order.now a.testing.now) f.width f.division } =
+    let ends : c.bracket-chance.result ≡ record {
+      refusal = 0;
+      low = low_of n (positive_in f a.order.now a.testing.now) f.width f.division;
+      high = high_of n (positive_in f a.order.now a.testing.now) f.width f.division;
+    } =
     chance ∙ taken_is n (positive_in f a.order.now a.testing.now) f.width f.division (length a.entries.now) c.requires.bracketed in
     λ i. record { finding = f; blocks = n; positive = positive i; low = (ends i).low; high = (ends i).high }

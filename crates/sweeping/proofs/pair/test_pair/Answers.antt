@@ -17,8 +17,6 @@ use Rattle.sweeping.proofs.pair.test_pair.Goals as goal
 -- what the search left
 
 module _ (d : After-train-finding) where
-
-
   abbrev raw : List ℕ
   raw = d.args.raw.now
 

@@ -38,7 +38,11 @@ pub overflow_mul-m : goal.overflow_mul-m
 overflow_mul-m c = omega (arith, half c)
 
 pub capacity_bytes-requires : goal.capacity_bytes-requires
-capacity_bytes-requires c = let v = has (goal.at.capacity_bytes-requires c).Start in record { le_block_size = v.low; block_size_bound = v.high; words_bound = c.requires.k_bound.1; }
+capacity_bytes-requires c = let v = has (goal.at.capacity_bytes-requires c).Start in record {
+  le_block_size = v.low;
+  block_size_bound = v.high;
+  words_bound = c.requires.k_bound.1;
+}
 
 pub returns-then-m-size : goal.returns-then-m-size
 unfolding pair_refusal training_refusal first_blocks

@@ -32,7 +32,10 @@ pub bounds-widths-i : goal.bounds-widths-i
 bounds-widths-i c = (let few' : c.loop-i.i < 7 = omega (arith, c.loop-i-test.true, c.requires.sound.few) in few')
 
 pub pair_refusal-refusal-requires : goal.pair_refusal-refusal-requires
-pair_refusal-refusal-requires c = record { block_size_value = (sizes c).valid; k_bound = ((sizes c).width, c.requires.words_bound); }
+pair_refusal-refusal-requires c = record {
+  block_size_value = (sizes c).valid;
+  k_bound = ((sizes c).width, c.requires.words_bound);
+}
 
 pub returns-then-refusal-ne0 : goal.returns-then-refusal-ne0
 returns-then-refusal-ne0 c =

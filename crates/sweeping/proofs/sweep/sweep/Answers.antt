@@ -45,19 +45,26 @@ some : (e : Else-refusal-ne0) → 1 ≤ e.configurations-plan.result.pairs
 some e = ((plan_sound (goal.at.nonzero_div-share e).After-configurations-plan).first (free e).0).0
 
 pub sweep_refusal-refusal-requires : goal.sweep_refusal-refusal-requires
-sweep_refusal-refusal-requires c = record { sound = plan_sound c; words_bound = few_words c; }
+sweep_refusal-refusal-requires c = record { sound = plan_sound c; words_bound = few_words c }
 
 pub returns-then-refusal-ne0 : goal.returns-then-refusal-ne0
 returns-then-refusal-ne0 c =
     let a = c.args in
-    let answered = c.refused.ensures ∙ refused_answer a.level a.block_size a.low_first a.raw.now (lent (goal.at.returns-then-refusal-ne0 c).Start) c.sweep_refusal-refusal.result (refusal_is (goal.at.returns-then-refusal-ne0 c).After-sweep_refusal-refusal) c.if-refusal-ne0.true in record { value = answered; lent_where_refused = ((λ h. refl), (λ h. refl), (λ h. refl), (λ h. refl), (λ h. refl), (λ h. refl)); verdict_value = answer_number a.level a.block_size a.low_first a.raw.now (lent (goal.at.returns-then-refusal-ne0 c).Start) c.refused.result answered; }
+    let answered = c.refused.ensures ∙ refused_answer a.level a.block_size a.low_first a.raw.now (lent (goal.at.returns-then-refusal-ne0 c).Start) c.sweep_refusal-refusal.result (refusal_is (goal.at.returns-then-refusal-ne0 c).After-sweep_refusal-refusal) c.if-refusal-ne0.true in record {
+      value = answered;
+      lent_where_refused = ((λ h. refl), (λ h. refl), (λ h. refl), (λ h. refl), (λ h. refl), (λ h. refl));
+      verdict_value = answer_number a.level a.block_size a.low_first a.raw.now (lent (goal.at.returns-then-refusal-ne0 c).Start) c.refused.result answered;
+    }
 
 pub nonzero_div-share : goal.nonzero_div-share
 nonzero_div-share c = omega (arith, some c)
 
 pub sweep_pairs-progress-requires : goal.sweep_pairs-progress-requires
 sweep_pairs-progress-requires c =
-    record { sound = plan_sound (goal.at.sweep_pairs-progress-requires c).After-configurations-plan; pairs_value = (free (goal.at.sweep_pairs-progress-requires c).Else-refusal-ne0).1; }
+    record {
+      sound = plan_sound (goal.at.sweep_pairs-progress-requires c).After-configurations-plan;
+      pairs_value = (free (goal.at.sweep_pairs-progress-requires c).Else-refusal-ne0).1;
+    }
 
 pub returns : goal.returns
 returns c =
@@ -66,4 +73,8 @@ returns c =
     c.answer.ensures ∙ ap answer_of c.sweep_pairs-progress.ensures in
     let none : (c.answer.result.refusal ≡ 0 → ⊥) → ⊥ = λ h. h (ap (λ (r : Swept). r.refusal) swept) in
     let answered = swept ∙ ap (λ (p : Plan). answer_of (progress_to (share_of a.level p) p a.low_first a.raw.now p.pairs)) (plan_is (goal.at.returns c).After-configurations-plan)
-    ∙ taken_answer a.level a.block_size a.low_first a.raw.now (lent (goal.at.returns c).Start) c.sweep_refusal-refusal.result (refusal_is (goal.at.returns c).After-sweep_refusal-refusal) c.if-refusal-ne0.false in record { value = answered; lent_where_refused = ((λ h. absurd (none h)), (λ h. absurd (none h)), (λ h. absurd (none h)), (λ h. absurd (none h)), (λ h. absurd (none h)), (λ h. absurd (none h))); verdict_value = answer_number a.level a.block_size a.low_first a.raw.now (lent (goal.at.returns c).Start) c.answer.result answered; }
+    ∙ taken_answer a.level a.block_size a.low_first a.raw.now (lent (goal.at.returns c).Start) c.sweep_refusal-refusal.result (refusal_is (goal.at.returns c).After-sweep_refusal-refusal) c.if-refusal-ne0.false in record {
+      value = answered;
+      lent_where_refused = ((λ h. absurd (none h)), (λ h. absurd (none h)), (λ h. absurd (none h)), (λ h. absurd (none h)), (λ h. absurd (none h)), (λ h. absurd (none h)));
+      verdict_value = answer_number a.level a.block_size a.low_first a.raw.now (lent (goal.at.returns c).Start) c.answer.result answered;
+    }

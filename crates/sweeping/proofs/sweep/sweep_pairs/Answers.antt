@@ -44,7 +44,10 @@ next_progress-progress-requires c =
     let bytes = length a.raw.now in
     let lent = room_of a.words.now a.bins.now a.order.now a.scratch.now a.entries.now in
     let free : pair_refusal bytes (get_or a.plan.blocks l.i 0) (get_or a.plan.widths l.i 0) lent ≡ 0 = each_free a.plan bytes lent a.plan.pairs l.i c.loop-i-test.true c.requires.pairs_value in
-    let tested : l.progress.tested ≤ l.i = rw l.invariant.1 (tested_few a.share a.plan a.low_first a.raw.now l.i) in record { sizes = (sizes (goal.at.next_progress-progress-requires c).In-loop-i, omega (arith, tested, few (goal.at.next_progress-progress-requires c).In-loop-i)); entries_value = subst (λ (r : Room). pair_refusal bytes (get_or a.plan.blocks l.i 0) (get_or a.plan.widths l.i 0) r ≡ 0) (sym l.invariant.2) free; }
+    let tested : l.progress.tested ≤ l.i = rw l.invariant.1 (tested_few a.share a.plan a.low_first a.raw.now l.i) in record {
+      sizes = (sizes (goal.at.next_progress-progress-requires c).In-loop-i, omega (arith, tested, few (goal.at.next_progress-progress-requires c).In-loop-i));
+      entries_value = subst (λ (r : Room). pair_refusal bytes (get_or a.plan.blocks l.i 0) (get_or a.plan.widths l.i 0) r ≡ 0) (sym l.invariant.2) free;
+    }
 
 pub overflow_add-i : goal.overflow_add-i
 overflow_add-i c = omega (arith, few (goal.at.overflow_add-i c).In-loop-i)
