@@ -3,70 +3,11 @@ use mathlib.Core.Path.{◌≡◌, refl, sym, subst, ◌∙◌}
 use mathlib.Core.Bool.{Bool, true, false}
 use mathlib.Core.List.{List, [], ◌∷◌, ◌++◌, append_assoc, append-nil}
 use mathlib.Core.Option.{none, some}
-use Prim.Native.Nat.{ℕ, zero, suc, ◌+◌, ◌≤◌}
+use Prim.Native.Nat.{ℕ, zero, suc, ◌≤◌}
 use native.Mathlib.Omega.{arith}
 use lib.ListN.{length, length-append}
-use Rattle.exchange.specs.Grammar.{
-  Exchanged,
-  ascii,
-  is_space,
-  is_digit,
-  is_exp,
-  Ws,
-  Token,
-  token,
-  Truth,
-  is_false,
-  is_true,
-  Word,
-  Score,
-  Separated,
-  last,
-  further,
-  Entry,
-  entry,
-  Array,
-  empty,
-  full,
-  Seen,
-  seen,
-  Key,
-  key,
-  Member,
-  has_bits,
-  has_indices,
-  has_division,
-  has_block,
-  has_low,
-  has_score,
-  Text,
-  text,
-}
-use Rattle.exchange.specs.Reader.{
-  Read,
-  bind,
-  either,
-  skip,
-  read_exactly,
-  read_token,
-  read_truth,
-  read_word,
-  skip_score,
-  read_turns,
-  read_separated,
-  read_entry,
-  read_array,
-  quoted,
-  names,
-  read_name,
-  read_key,
-  read_value,
-  read_member,
-  whole,
-  is_empty,
-  nothing_seen,
-  read_text,
-}
+use Rattle.exchange.specs.Grammar.{Exchanged, ascii, is_space, is_digit, is_exp, Ws, Token, token, Truth, is_false, is_true, Separated, last, further, Entry, entry, Array, empty, full, Seen, seen, Key, key, Member, has_bits, has_indices, has_division, has_block, has_low, has_score, Text, text}
+use Rattle.exchange.specs.Reader.{Read, skip, read_exactly, read_token, read_truth, read_word, skip_score, read_turns, read_separated, read_entry, read_array, quoted, names, read_name, read_key, read_value, read_member, whole, is_empty, nothing_seen, read_text}
 use Rattle.exchange.specs.declared.keys.Name.{Name}
 use Rattle.exchange.specs.declared.keys.Name.TheVariants.{Bits, SortedIndices, BestDivision, BlockSize, LowFirst, ZScore}
 use Rattle.exchange.proofs.Tokens.{Split, Splits, joined, kept, none_some, some_same, bound, chosen, passed, skip_ws, skipped, token_sound, token_is}

@@ -1,4 +1,6 @@
 // Findings as text for the upstream tool: one RFC 8259 object for a finding and its bin order, written and read.
+#![tactic(auto)]
+
 mod arrays;
 mod cursor;
 mod decimals;

@@ -1,6 +1,8 @@
 // The calls for hosts in other languages: numbers and slices only. A slice passes as its address and its number of entries.
 // A sampler is 8 numbers in a lent slice and 2,048 bytes in another (`specs/Samplers.antt`), a finding 25 numbers, a sweep 60 (`specs/Records.antt`); a slice too
 // short for its record is answered with 25, a record whose number for the bit order is neither 0 nor 1 with 27, and nothing is written.
+#![tactic(auto)]
+
 ghost use Rattle.std.specs.Prelude.{◌≡◌, length};
 ghost use Rattle.layers.specs.Store.{store_needed};
 ghost use Rattle.subsets.specs.Rank.{ranked_of};

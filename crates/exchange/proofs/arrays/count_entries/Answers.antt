@@ -33,7 +33,6 @@ module _ (d : At-loop-word) where
 -- behind a number
 
 module _ (k : After-skip_space-next) where
-
   abbrev behind : ℕ
   behind = k.skip_word-word.result.at
 

@@ -47,7 +47,6 @@ module _ (x : After-known_word-word) where
       word_there (bytes (goal.at.skip_space-i-requires x).At-loop-n) _ (read_word (drop x.loop-n.i (bytes (goal.at.skip_space-i-requires x).At-loop-n))) x.known_word-word.result x.known_word-word.ensures (entries_word _ _ _ left.1.1).1
 
 module _ (y : After-skip_space-i) where
-
   turn : Turn (bytes (goal.at.overflow_add-i y).At-loop-n) (numbers (goal.at.overflow_add-i y).At-loop-n) (left (goal.at.overflow_add-i y).After-known_word-word).1.0 y.loop-n.n (value (goal.at.overflow_add-i y).After-known_word-word) y.skip_space-i.result
   turn =
       turned (bytes (goal.at.overflow_add-i y).At-loop-n) (numbers (goal.at.overflow_add-i y).At-loop-n) (left (goal.at.overflow_add-i y).After-known_word-word).1.0 y.loop-n.n y.loop-n.i (behind (goal.at.overflow_add-i y).After-known_word-word) (value (goal.at.overflow_add-i y).After-known_word-word) y.skip_space-i.result
@@ -71,7 +70,7 @@ pub known_word-word-requires : goal.known_word-word-requires
 known_word-word-requires c =
     let left = c.loop-n.invariant.3 c.loop-n-test.true in
     let w = entries_word _ _ _ left.1.1 in
-    record { at_in_bounds = left.0; read = is_read _ w.0 w.1; }
+    record { at_in_bounds = left.0; read = is_read _ w.0 w.1 }
 
 pub skip_space-i-requires : goal.skip_space-i-requires
 skip_space-i-requires c = (read c).1

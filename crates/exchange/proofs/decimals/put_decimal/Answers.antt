@@ -84,4 +84,4 @@ returns c =
     long_more a.out.now a.at m _ _ _ low high front c.put_four-2.ensures room in
     let all : Stands a.out.now a.at (decimal a.n) (c.put_short-to-2.result + 4 + 4) c.put_four-3.new.out =
     long_more a.out.now a.at a.n _ _ _ (omega arith) (omega arith) middle c.put_four-3.ensures room₂ in
-    record { value = omega (arith, all.0); out_after = all.1; }
+    record { value = omega (arith, all.0); out_after = all.1 }

@@ -27,10 +27,14 @@ abbrev list : At-loop-i → List ℕ
 list l = l.args.ns.now
 
 whole : (l : At-loop-i) → l.put_decimal-to.result + length (behind (drop 1 (list l))) ≡ l.args.at + length (listed (list l))
-whole l = omega (arith, l.put_decimal-to.ensures.value, (let first_length' : let ns = l.args.ns.now in
-    length (listed ns) ≡ length (decimal (get_or ns 0 0)) + length (behind (drop 1 ns)) = let ns = l.args.ns.now in
-    let some : 0 < length ns = search rules in
-    ap length (listed_first ns some) ∙ length-append (decimal (get_or ns 0 0)) (behind (drop 1 ns)) in first_length'))
+whole l = omega (
+  arith,
+  l.put_decimal-to.ensures.value,
+  (let first_length' : let ns = l.args.ns.now in
+      length (listed ns) ≡ length (decimal (get_or ns 0 0)) + length (behind (drop 1 ns)) = let ns = l.args.ns.now in
+      let some : 0 < length ns = search rules in
+      ap length (listed_first ns some) ∙ length-append (decimal (get_or ns 0 0)) (behind (drop 1 ns)) in first_length'),
+)
 
 room : (l : At-loop-i) → l.loop-i.to + length (behind (drop l.loop-i.i (list l))) ≤ length l.loop-i.out
 room l = omega (arith, l.loop-i.invariant.0, l.loop-i.invariant.2, whole l, l.put_decimal-to.auto.out, l.requires)
@@ -43,7 +47,7 @@ pub returns-then-ns-eq0 : goal.returns-then-ns-eq0
 returns-then-ns-eq0 c =
     let a = c.args in
     let none = listed_none a.ns.now c.if-ns-eq0.true in
-    record { value = omega (arith, ap length none); out_after = sym (ap (put a.out.now a.at) none ∙ put_none a.out.now a.at); }
+    record { value = omega (arith, ap length none); out_after = sym (ap (put a.out.now a.at) none ∙ put_none a.out.now a.at) }
 
 pub put_decimal-to-requires : goal.put_decimal-to-requires
 put_decimal-to-requires c = omega (arith, first_length (goal.at.put_decimal-to-requires c).Else-ns-eq0)
@@ -97,9 +101,12 @@ returns c =
     let some : 0 < length ns = omega arith in
     let all : c.loop-i.i ≡ length ns = omega arith in
     let none = behind_none ns c.loop-i.i all in
-    let fits : p.result ≤ length a.out.now = omega (arith, whole (goal.at.returns c).At-loop-i, c.requires) in record { value = omega (arith, c.loop-i.invariant.0, whole (goal.at.returns c).At-loop-i, ap length none); out_after = sym (put_none c.loop-i.out c.loop-i.to)
+    let fits : p.result ≤ length a.out.now = omega (arith, whole (goal.at.returns c).At-loop-i, c.requires) in record {
+      value = omega (arith, c.loop-i.invariant.0, whole (goal.at.returns c).At-loop-i, ap length none);
+      out_after = sym (put_none c.loop-i.out c.loop-i.to)
           ∙ ap (put c.loop-i.out c.loop-i.to) (sym none)
           ∙ c.loop-i.invariant.1
           ∙ ap (λ (o : List ℕ). put o p.result (behind (drop 1 ns))) p.ensures.out_after
           ∙ put_put a.out.now a.at (decimal (get_or ns 0 0)) (behind (drop 1 ns)) p.result (sym p.ensures.value) fits
-          ∙ ap (put a.out.now a.at) (sym (listed_first ns some)); }
+          ∙ ap (put a.out.now a.at) (sym (listed_first ns some));
+    }

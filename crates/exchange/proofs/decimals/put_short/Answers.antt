@@ -32,7 +32,7 @@ pub returns-then-n-lt10 : goal.returns-then-n-lt10
 returns-then-n-lt10 c =
     let whole = (let a = c.args in
     let room : a.at < length a.out.now = omega (arith, one (goal.at.returns-then-n-lt10 c).Then-n-lt10) in
-    short_one a.out.now a.at a.n _ (omega arith) room c.digit.ensures) in record { value = whole.0; out_after = whole.1; }
+    short_one a.out.now a.at a.n _ (omega arith) room c.digit.ensures) in record { value = whole.0; out_after = whole.1 }
 
 pub put_two-requires : goal.put_two-requires
 put_two-requires c = record {

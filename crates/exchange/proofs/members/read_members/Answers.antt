@@ -34,7 +34,6 @@ module _ (d : At-loop-member) where
 -- behind a member
 
 module _ (e : Else-not-member) where
-
   abbrev now_found : Seen
   now_found = seen_in e.args.s.now e.read_member-member.result.found
 
@@ -48,8 +47,6 @@ module _ (e : Else-not-member) where
 -- behind a comma
 
 module _ (c : Else-not-comma) where
-
-
   next : (read_token (ascii ",") (behind (goal.at.loop-member-smaller c).Else-not-member) ≡ some (drop c.token-comma.result.at (bytes (goal.at.loop-member-smaller c).At-loop-member))) × (c.token-comma.result.at ≤ length (bytes (goal.at.loop-member-smaller c).At-loop-member))
   next = place_got (bytes (goal.at.loop-member-smaller c).At-loop-member) _ c.token-comma.result c.token-comma.ensures (not-false _ c.if-not-comma.false)
 
@@ -66,7 +63,7 @@ loop-member-init c =
     (search rules, nothing_sized s f n.0 n.1, (λ i. members_from (sym (nothing_held s f n.0 n.1 n.2 n.3 n.4 n.5) i) (drop c.args.at s)))
 
 pub read_member-member-requires : goal.read_member-member-requires
-read_member-member-requires c = record { at_in_bounds = c.loop-member.invariant.0; sized = c.loop-member.invariant.1; }
+read_member-member-requires c = record { at_in_bounds = c.loop-member.invariant.0; sized = c.loop-member.invariant.1 }
 
 pub returns-then-not-member : goal.returns-then-not-member
 returns-then-not-member c =

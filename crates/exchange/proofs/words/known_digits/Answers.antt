@@ -29,7 +29,6 @@ module _ (d : At-loop-i) where
 -- the next number
 
 module _ (c : After-digit_of) where
-
   digit : is_digit (get_or (text (goal.at.overflow_add-n c).At-loop-i) c.loop-i.i 0) ≡ true
   digit = sym c.is_digit.ensures ∙ c.if-not-is_digit.false
 

@@ -44,7 +44,6 @@ module _ (x : After-skip_space-start) where
 -- ---- the digits
 
 module _ (c : After-digit_of) where
-
   abbrev number : ℕ × List ℕ
   number = read_digits c.digit_of.result (drop (start (goal.at.known_digits-requires c).After-skip_space-start + 1) (text (goal.at.known_digits-requires c).After-skip_space-start))
 

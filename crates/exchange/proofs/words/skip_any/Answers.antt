@@ -21,8 +21,6 @@ within x h = lt_of_le-ne x.skip_space-start.ensures.within h
 -- ---- behind the digits
 
 module _ (m : After-skip_more-end) where
-
-
   abbrev text : List ℕ
   text = m.args.s.now
 

@@ -47,4 +47,4 @@ pub returns : goal.returns
 returns c =
     let a = c.args in
     let all : c.loop-i.i ≡ length a.bytes.now = omega arith in
-    record { value = omega arith; out_after = c.loop-i.invariant.0 ∙ put_all a.out.now a.at a.bytes.now c.loop-i.i all; }
+    record { value = omega arith; out_after = c.loop-i.invariant.0 ∙ put_all a.out.now a.at a.bytes.now c.loop-i.i all }

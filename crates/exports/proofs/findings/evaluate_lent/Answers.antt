@@ -29,6 +29,9 @@ returns c =
     let a = c.args in
     let f = finding_read a.numbers.now in
     let w = width_read f (none (goal.at.returns c).Else-refusal-ne0) in
-    let is = c.read_finding.ensures in record { value = c.evaluate_histogram.ensures.value ∙ ap (λ (g : Finding). evaluated_of g a.order.now a.bytes.now (length a.scratch.now)) is
-          ∙ evaluated_alike f w a.order.now a.bytes.now (length a.scratch.now); scratch_after = c.evaluate_histogram.ensures.scratch_after ∙ ap (λ (g : Finding). evaluated_scratch g a.order.now a.bytes.now a.scratch.now) is
-          ∙ counted_alike f w a.order.now a.bytes.now a.scratch.now; }
+    let is = c.read_finding.ensures in record {
+      value = c.evaluate_histogram.ensures.value ∙ ap (λ (g : Finding). evaluated_of g a.order.now a.bytes.now (length a.scratch.now)) is
+          ∙ evaluated_alike f w a.order.now a.bytes.now (length a.scratch.now);
+      scratch_after = c.evaluate_histogram.ensures.scratch_after ∙ ap (λ (g : Finding). evaluated_scratch g a.order.now a.bytes.now a.scratch.now) is
+          ∙ counted_alike f w a.order.now a.bytes.now a.scratch.now;
+    }

@@ -28,6 +28,9 @@ returns c =
     let a = c.args in
     let f = finding_read a.numbers.now in
     let w = width_read f (none (goal.at.returns c).Else-refusal-ne0) in
-    let is = c.read_finding.ensures in record { value = c.validate.ensures.value ∙ ap (λ (g : Finding). check_refusal g a.order.now (length a.scratch.now)) is
-          ∙ check_alike f w a.order.now (length a.scratch.now); scratch_after = c.validate.ensures.scratch_after ∙ ap (λ (g : Finding). checked_scratch g (length a.order.now) a.scratch.now) is
-          ∙ cleared_alike f w (length a.order.now) a.scratch.now; }
+    let is = c.read_finding.ensures in record {
+      value = c.validate.ensures.value ∙ ap (λ (g : Finding). check_refusal g a.order.now (length a.scratch.now)) is
+          ∙ check_alike f w a.order.now (length a.scratch.now);
+      scratch_after = c.validate.ensures.scratch_after ∙ ap (λ (g : Finding). checked_scratch g (length a.order.now) a.scratch.now) is
+          ∙ cleared_alike f w (length a.order.now) a.scratch.now;
+    }

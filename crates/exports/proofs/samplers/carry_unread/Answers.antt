@@ -1,6 +1,5 @@
 -- `samplers::carry_unread` meets its contract: the lengths first, then the bit order.
 use mathlib.Core.Path.{sym, ◌∙◌}
-use mathlib.Core.Bool.{true}
 use borrow.Author.Tests.{le-leb, lt-leb, eq-eqb, ne_eqb}
 use Rattle.exports.specs.Samplers.{carry_unread}
 use Rattle.exports.proofs.samplers.carry_unread.Goals as goal

@@ -6,7 +6,7 @@ use Rattle.sheet.proofs.header.digit_of.Goals as goal
 
 pub returns-then-c-lt48 : goal.returns-then-c-lt48
 unfolding digit_of
-returns-then-c-lt48 c = record { value = simp (lt-leb _ _ c.if-c-lt48.true); upper_bound = omega arith; }
+returns-then-c-lt48 c = record { value = simp (lt-leb _ _ c.if-c-lt48.true); upper_bound = omega arith }
 
 pub returns-then-c-gt57 : goal.returns-then-c-gt57
 unfolding digit_of
@@ -17,4 +17,4 @@ returns-then-c-gt57 c = record {
 
 pub returns : goal.returns
 unfolding digit_of
-returns c = record { value = simp (le-leb _ _ c.if-c-lt48.false, le-leb _ _ c.if-c-gt57.false); upper_bound = omega arith; }
+returns c = record { value = simp (le-leb _ _ c.if-c-lt48.false, le-leb _ _ c.if-c-gt57.false); upper_bound = omega arith }

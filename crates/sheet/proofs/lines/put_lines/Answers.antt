@@ -16,7 +16,10 @@ returns c =
     let n = c.put_line-second.result in
     let p : m ≡ 49 = omega (arith, c.put_line-first.ensures.value, c.requires) in
     let q : n ≡ m + 8 * length a.bits.now + 1 = c.put_line-second.ensures.value in
-    let fits : n ≤ length a.out.now = omega (arith, c.requires) in record { value = omega (arith, c.put_line.ensures.value, c.requires); out_after = c.put_line.ensures.out_after
+    let fits : n ≤ length a.out.now = omega (arith, c.requires) in record {
+      value = omega (arith, c.put_line.ensures.value, c.requires);
+      out_after = c.put_line.ensures.out_after
           ∙ ap (λ (o : List ℕ). put o n (line 20 a.patterns.now))
           (c.put_line-second.ensures.out_after ∙ ap (λ (o : List ℕ). put o m (line 8 a.bits.now)) c.put_line-first.ensures.out_after)
-          ∙ lines_put a.out.now a.counts.now a.bits.now a.patterns.now m n p q fits c.requires.counts_len.0; }
+          ∙ lines_put a.out.now a.counts.now a.bits.now a.patterns.now m n p q fits c.requires.counts_len.0;
+    }

@@ -30,7 +30,6 @@ width_few c = omega (arith, c.field_at-k.ensures, (has (goal.at.overflow_mul-k c
 -- what was read and cut is the input's
 
 module _ (c : After-second_part-testing) where
-
   abbrev s : List ℕ
   s = c.args.input.now
 
@@ -47,8 +46,13 @@ module _ (c : After-second_part-testing) where
   testing_is = c.second_part-testing.ensures ∙ (λ i. second_part (raw_is s i) (block_is i) true)
 
   fits : length (sheet_of s) ≤ length c.args.out.now
-  fits = omega (arith, (let sheet_length' : length (sheet_of c.args.input.now) ≡ 91 + 8 * width_of c.args.input.now = let s = c.args.input.now in
-    ap length (sheet_lines s c.requires) ∙ lines_length (block_size_of s) (width_of s) (training_of s) (testing_of s) (judgeable s (let has' : Accepted c.args.input.now = accepted c.args.input.now c.requires in has')) in sheet_length'), width_is, c.if-out-k.false)
+  fits = omega (
+    arith,
+    (let sheet_length' : length (sheet_of c.args.input.now) ≡ 91 + 8 * width_of c.args.input.now = let s = c.args.input.now in
+        ap length (sheet_lines s c.requires) ∙ lines_length (block_size_of s) (width_of s) (training_of s) (testing_of s) (judgeable s (let has' : Accepted c.args.input.now = accepted c.args.input.now c.requires in has')) in sheet_length'),
+    width_is,
+    c.if-out-k.false,
+  )
 
 pub field_at-block_size-requires : goal.field_at-block_size-requires
 field_at-block_size-requires c = omega (arith, (has (goal.at.field_at-block_size-requires c).Start).taken.long)
