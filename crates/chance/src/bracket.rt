@@ -43,7 +43,8 @@ pub fn bracket(n: usize, c: usize, k: usize, d: usize, scratch: &mut [u64]) -> B
 fn bracket_refusal(n: usize, c: usize, k: usize, d: usize, room: usize) -> u32
     ensures { result ≡ bracket_refusal n c k d room }
 {
-    if n > 4096 {
+    let long = n > 4096;
+    if long {
         return 19;
     }
     if c > n {

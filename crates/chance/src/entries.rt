@@ -54,7 +54,8 @@ fn past_zeros(from: usize, to: usize, scratch: &[u64]) -> usize
 {
     let mut i = from;
     while i < to {
-        if scratch[i] != 0 {
+        let set = scratch[i] != 0;
+        if set {
             return i;
         }
         i += 1;

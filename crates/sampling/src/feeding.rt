@@ -72,7 +72,8 @@ fn feed_refusal(head: Head, words: usize, board: usize, new: usize) -> u32
     if refusal != 0 {
         return refusal;
     }
-    if board > 3 {
+    let unknown = board > 3;
+    if unknown {
         return 21;
     }
     let done = (unfinished_on(head, board) + new) / (head.block_size / 8);

@@ -33,7 +33,8 @@ pub fn absolute(z: f64) -> f64
         return z;
     }
     let b = f64::to_bits(z);
-    if b < 9223372036854775808 {
+    let positive = b < 9223372036854775808;
+    if positive {
         return z;
     }
     f64::from_bits(b - 9223372036854775808)

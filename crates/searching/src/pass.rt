@@ -147,7 +147,8 @@ fn walk(
     let mut z = ranking.z;
     while step(&mut bits, k, words, stretch, store, run, bins, order) {
         let next = rank_candidate(&bits[..k], words, stretch, store, run, roots, bins, order);
-        if z < next.z {
+        let better = z < next.z;
+        if better {
             best = bits;
             z = next.z;
         }

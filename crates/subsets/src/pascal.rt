@@ -16,10 +16,12 @@ pub fn coefficient(table: &[u32], n: usize, r: usize) -> usize
     requires { (length table.now ≡ 2052) × (n < 4294967296) }
     ensures { result ≡ coefficient_in table.now n r }
 {
-    if n > 512 {
+    let past_rows = n > 512;
+    if past_rows {
         return choose_up_to(n, r);
     }
-    if r > 3 {
+    let past_columns = r > 3;
+    if past_columns {
         return choose_up_to(n, r);
     }
     table[4 * n + r] as usize

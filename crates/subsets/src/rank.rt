@@ -56,7 +56,8 @@ pub fn compute_index(block_size: usize, k: usize, bits: [u32; 20]) -> Ranked
     if refusal != 0 {
         return Ranked { refusal, rank: 0 };
     }
-    if choose_up_to(block_size, k) > 4294967296 {
+    let many = choose_up_to(block_size, k) > 4294967296;
+    if many {
         return Ranked {
             refusal: 12,
             rank: 0,

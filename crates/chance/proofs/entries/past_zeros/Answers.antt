@@ -17,8 +17,8 @@ passing from i f all is j a h = go (dec_lt j i)
 pub loop-i-init : goal.loop-i-init
 loop-i-init c = (omega arith, omega arith, λ j a h. absurd (omega arith))
 
-pub returns-then-scratch-i-ne0 : goal.returns-then-scratch-i-ne0
-returns-then-scratch-i-ne0 c = c.loop-i.invariant
+pub returns-then-set : goal.returns-then-set
+returns-then-set c = c.loop-i.invariant
 
 pub loop-i-preserved : goal.loop-i-preserved
 loop-i-preserved c =
@@ -26,7 +26,7 @@ loop-i-preserved c =
     let f = get_or c.args.scratch.now in (
       omega (arith, c.loop-i.invariant.0),
       omega arith,
-      λ j a h. passing c.args.from i (λ x. f x 0) c.loop-i.invariant.2 c.if-scratch-i-ne0.false j a h,
+      λ j a h. passing c.args.from i (λ x. f x 0) c.loop-i.invariant.2 c.if-set.false j a h,
     )
 
 pub returns : goal.returns

@@ -11,18 +11,18 @@ use Rattle.counting.proofs.Accepted.{valid_facts}
 use Rattle.sampling.specs.Feeding.{together, completed, feed_refusal}
 use Rattle.sampling.specs.Sampler.{sampler_refusal}
 use Rattle.sampling.proofs.Usable.{Usable, usable}
-use Rattle.sampling.proofs.feeding.feed_refusal.Goals.{After-unfinished_on, Else-board-gt3, Else-refusal-ne0}
+use Rattle.sampling.proofs.feeding.feed_refusal.Goals.{After-unfinished_on, Else-unknown, Else-refusal-ne0}
 use Rattle.sampling.proofs.feeding.feed_refusal.Goals as goal
 
 -- past the sampler's refusal
 free : (c : Else-refusal-ne0) → sampler_refusal c.args.head c.args.words ≡ 0
 free c = sym c.sampler_refusal-refusal.ensures ∙ c.if-refusal-ne0.false
 
-fit : (e : Else-board-gt3) → Usable e.args.head e.args.words
+fit : (e : Else-unknown) → Usable e.args.head e.args.words
 fit e = usable e.args.head e.args.words (free (goal.at.unfinished_on-requires e).Else-refusal-ne0)
 
-named : (e : Else-board-gt3) → leb e.args.board 3 ≡ true
-named e = le-leb _ _ e.if-board-gt3.false
+named : (e : Else-unknown) → leb e.args.board 3 ≡ true
+named e = le-leb _ _ e.if-unknown.false
 
 -- the blocks that the piece completes
 done_is : (u : After-unfinished_on) → let a = u.args in
@@ -35,31 +35,31 @@ returns-then-refusal-ne0 c =
     let is = c.sampler_refusal-refusal.ensures in
     simp (ne_eqb _ _ (λ z. c.if-refusal-ne0.true (is ∙ z))) is
 
-pub returns-then-board-gt3 : goal.returns-then-board-gt3
+pub returns-then-unknown : goal.returns-then-unknown
 unfolding feed_refusal
-returns-then-board-gt3 c = simp (free (goal.at.returns-then-board-gt3 c).Else-refusal-ne0, lt-leb _ _ c.if-board-gt3.true)
+returns-then-unknown c = simp (free (goal.at.returns-then-unknown c).Else-refusal-ne0, lt-leb _ _ c.if-unknown.true)
 
 pub unfinished_on-requires : goal.unfinished_on-requires
-unfinished_on-requires c = omega (arith, c.if-board-gt3.false)
+unfinished_on-requires c = omega (arith, c.if-unknown.false)
 
 pub overflow_add-done : goal.overflow_add-done
 overflow_add-done c =
-    let v = valid_facts _ (fit (goal.at.overflow_add-done c).Else-board-gt3).valid in
-    omega (arith, (fit (goal.at.overflow_add-done c).Else-board-gt3).short c.args.board (omega (arith, c.if-board-gt3.false)), c.requires.bound, v, c.unfinished_on.ensures)
+    let v = valid_facts _ (fit (goal.at.overflow_add-done c).Else-unknown).valid in
+    omega (arith, (fit (goal.at.overflow_add-done c).Else-unknown).short c.args.board (omega (arith, c.if-unknown.false)), c.requires.bound, v, c.unfinished_on.ensures)
 
 pub nonzero_div-done-2 : goal.nonzero_div-done-2
-nonzero_div-done-2 c = omega (arith, valid_facts _ (fit (goal.at.nonzero_div-done-2 c).Else-board-gt3).valid)
+nonzero_div-done-2 c = omega (arith, valid_facts _ (fit (goal.at.nonzero_div-done-2 c).Else-unknown).valid)
 
 pub overflow_add-head : goal.overflow_add-head
 overflow_add-head c =
-    let v = valid_facts _ (fit (goal.at.overflow_add-head c).Else-board-gt3).valid in
-    omega (arith, done_is (goal.at.overflow_add-head c).After-unfinished_on, (fit (goal.at.overflow_add-head c).Else-board-gt3).short c.args.board (omega (arith, c.if-board-gt3.false)), c.requires.bound, v, (fit (goal.at.overflow_add-head c).Else-board-gt3).within, min-le_right (64 * (c.args.words / c.args.head.block_size)) 16777216, div-le_self (together c.args.head c.args.board c.args.new) (block_bytes c.args.head.block_size))
+    let v = valid_facts _ (fit (goal.at.overflow_add-head c).Else-unknown).valid in
+    omega (arith, done_is (goal.at.overflow_add-head c).After-unfinished_on, (fit (goal.at.overflow_add-head c).Else-unknown).short c.args.board (omega (arith, c.if-unknown.false)), c.requires.bound, v, (fit (goal.at.overflow_add-head c).Else-unknown).within, min-le_right (64 * (c.args.words / c.args.head.block_size)) 16777216, div-le_self (together c.args.head c.args.board c.args.new) (block_bytes c.args.head.block_size))
 
 pub capacity_blocks-requires : goal.capacity_blocks-requires
 capacity_blocks-requires c =
     record {
-      le_block_size = omega (arith, valid_facts _ (fit (goal.at.capacity_blocks-requires c).Else-board-gt3).valid, c.requires);
-      words_bound = omega (arith, valid_facts _ (fit (goal.at.capacity_blocks-requires c).Else-board-gt3).valid, c.requires);
+      le_block_size = omega (arith, valid_facts _ (fit (goal.at.capacity_blocks-requires c).Else-unknown).valid, c.requires);
+      words_bound = omega (arith, valid_facts _ (fit (goal.at.capacity_blocks-requires c).Else-unknown).valid, c.requires);
     }
 
 pub returns-then-head-done : goal.returns-then-head-done
@@ -68,7 +68,7 @@ returns-then-head-done c =
     let a = c.args in
     let over : capacity a.head.block_size a.words < a.head.blocks + completed a.head a.board a.new =
     omega (arith, c.capacity_blocks.ensures, done_is (goal.at.returns-then-head-done c).After-unfinished_on) in
-    simp (free (goal.at.returns-then-head-done c).Else-refusal-ne0, named (goal.at.returns-then-head-done c).Else-board-gt3, lt-leb _ _ over)
+    simp (free (goal.at.returns-then-head-done c).Else-refusal-ne0, named (goal.at.returns-then-head-done c).Else-unknown, lt-leb _ _ over)
 
 pub returns : goal.returns
 unfolding feed_refusal
@@ -76,4 +76,4 @@ returns c =
     let a = c.args in
     let within : a.head.blocks + completed a.head a.board a.new ≤ capacity a.head.block_size a.words =
     omega (arith, c.capacity_blocks.ensures, done_is (goal.at.returns c).After-unfinished_on) in
-    simp (free (goal.at.returns c).Else-refusal-ne0, named (goal.at.returns c).Else-board-gt3, le-leb _ _ within)
+    simp (free (goal.at.returns c).Else-refusal-ne0, named (goal.at.returns c).Else-unknown, le-leb _ _ within)

@@ -17,11 +17,11 @@ returns-then-z c = nan_own_size c.args.z (differs_from_itself c.args.z (subst T 
 pub float_to_bits-b : goal.float_to_bits-b
 float_to_bits-b c = is_number c.args.z c.if-z.false
 
-pub returns-then-b-lt9223372036854775808 : goal.returns-then-b-lt9223372036854775808
-returns-then-b-lt9223372036854775808 c = own_size c.args.z (held (goal.at.returns-then-b-lt9223372036854775808 c).Start) c.if-b-lt9223372036854775808.true
+pub returns-then-positive : goal.returns-then-positive
+returns-then-positive c = own_size c.args.z (held (goal.at.returns-then-positive c).Start) c.if-positive.true
 
 pub float_from_bits-result : goal.float_from_bits-result
-float_from_bits-result c = bits_no_nan c.args.z (held (goal.at.float_from_bits-result c).Start) (is_number c.args.z c.if-z.false) c.if-b-lt9223372036854775808.false
+float_from_bits-result c = bits_no_nan c.args.z (held (goal.at.float_from_bits-result c).Start) (is_number c.args.z c.if-z.false) c.if-positive.false
 
 pub returns : goal.returns
-returns c = without_sign c.args.z (held (goal.at.returns c).Start) c.if-b-lt9223372036854775808.false
+returns c = without_sign c.args.z (held (goal.at.returns c).Start) c.if-positive.false

@@ -193,17 +193,17 @@ rank_candidate-next-requires c =
       roots = rw size c.requires.roots;
     }
 
-pub loop-stretch-smaller-then-z-next : goal.loop-stretch-smaller-then-z-next
-loop-stretch-smaller-then-z-next c = less (goal.at.loop-stretch-smaller-then-z-next c).After-step c.loop-stretch-test.true
+pub loop-stretch-smaller-then-better : goal.loop-stretch-smaller-then-better
+loop-stretch-smaller-then-better c = less (goal.at.loop-stretch-smaller-then-better c).After-step c.loop-stretch-test.true
 
-pub loop-stretch-preserved-then-z-next : goal.loop-stretch-preserved-then-z-next
-loop-stretch-preserved-then-z-next c =
+pub loop-stretch-preserved-then-better : goal.loop-stretch-preserved-then-better
+loop-stretch-preserved-then-better c =
     let a = c.args in
     let r = c.rank_candidate-next in
     let g = c.step in
-    let b = buffers (goal.at.loop-stretch-preserved-then-z-next c).After-rank_candidate-next in (
-      takes (bit (goal.at.loop-stretch-preserved-then-z-next c).Start) (span a.stretch) a.stretch.block_size a.k c.requires.searchable.chosen c.requires.searchable.width c.loop-stretch.bits c.loop-stretch.best g.new.bits c.loop-stretch.z c.loop-stretch.invariant.0
-          g.auto.bits g.result g.ensures.stepped c.loop-stretch-test.true r.result.z (ap (λ (q : Ranking). q.z) r.ensures.value) (holds _ c.if-z-next.true),
+    let b = buffers (goal.at.loop-stretch-preserved-then-better c).After-rank_candidate-next in (
+      takes (bit (goal.at.loop-stretch-preserved-then-better c).Start) (span a.stretch) a.stretch.block_size a.k c.requires.searchable.chosen c.requires.searchable.width c.loop-stretch.bits c.loop-stretch.best g.new.bits c.loop-stretch.z c.loop-stretch.invariant.0
+          g.auto.bits g.result g.ensures.stepped c.loop-stretch-test.true r.result.z (ap (λ (q : Ranking). q.z) r.ensures.value) (holds _ c.if-better.true),
       b.0,
       b.1,
       b.2,
@@ -223,7 +223,7 @@ loop-stretch-preserved c =
     let g = c.step in
     let b = buffers (goal.at.loop-stretch-preserved c).After-rank_candidate-next in (
       keeps (bit (goal.at.loop-stretch-preserved c).Start) (span a.stretch) a.stretch.block_size a.k c.requires.searchable.chosen c.requires.searchable.width c.loop-stretch.bits c.loop-stretch.best g.new.bits c.loop-stretch.z c.loop-stretch.invariant.0
-          g.auto.bits g.result g.ensures.stepped c.loop-stretch-test.true r.result.z (ap (λ (q : Ranking). q.z) r.ensures.value) (fails _ c.if-z-next.false),
+          g.auto.bits g.result g.ensures.stepped c.loop-stretch-test.true r.result.z (ap (λ (q : Ranking). q.z) r.ensures.value) (fails _ c.if-better.false),
       b.0,
       b.1,
       b.2,

@@ -4,15 +4,15 @@ use native.Mathlib.Omega.{arith}
 use Rattle.subsets.proofs.Tabling.{read_there, past_rows, past_columns}
 use Rattle.subsets.proofs.pascal.coefficient.Goals as goal
 
-pub returns-then-n-gt512 : goal.returns-then-n-gt512
-returns-then-n-gt512 c =
+pub returns-then-past_rows : goal.returns-then-past_rows
+returns-then-past_rows c =
     let a = c.args in
-    past_rows a.table.now a.n a.r c.choose_up_to.result c.if-n-gt512.true c.choose_up_to.ensures
+    past_rows a.table.now a.n a.r c.choose_up_to.result c.if-past_rows.true c.choose_up_to.ensures
 
-pub returns-then-r-gt3 : goal.returns-then-r-gt3
-returns-then-r-gt3 c =
+pub returns-then-past_columns : goal.returns-then-past_columns
+returns-then-past_columns c =
     let a = c.args in
-    past_columns a.table.now a.n a.r c.choose_up_to-then-r-gt3.result c.if-n-gt512.false c.if-r-gt3.true c.choose_up_to-then-r-gt3.ensures
+    past_columns a.table.now a.n a.r c.choose_up_to-then-past_columns.result c.if-past_rows.false c.if-past_columns.true c.choose_up_to-then-past_columns.ensures
 
 pub overflow_cast-result : goal.overflow_cast-result
 overflow_cast-result c =
@@ -22,4 +22,4 @@ overflow_cast-result c =
 pub returns : goal.returns
 returns c =
     let a = c.args in
-    read_there a.table.now a.n a.r c.if-n-gt512.false c.if-r-gt3.false
+    read_there a.table.now a.n a.r c.if-past_rows.false c.if-past_columns.false

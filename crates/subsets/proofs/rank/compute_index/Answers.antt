@@ -53,24 +53,24 @@ returns-then-refusal-ne0 c =
     let r = c.bits_refusal-refusal in
     bad_bits a.block_size a.k (take a.k a.bits) (size_ok (goal.at.returns-then-refusal-ne0 c).Else-not-valid_block_size) (width_ok (goal.at.returns-then-refusal-ne0 c).Else-not-valid_width) c.if-k-block_size.false r.result r.ensures c.if-refusal-ne0.true
 
-pub choose_up_to-requires : goal.choose_up_to-requires
-choose_up_to-requires c =
-    omega (arith, valid_facts c.args.block_size (size_ok (goal.at.choose_up_to-requires c).Else-not-valid_block_size))
+pub choose_up_to-many-requires : goal.choose_up_to-many-requires
+choose_up_to-many-requires c =
+    omega (arith, valid_facts c.args.block_size (size_ok (goal.at.choose_up_to-many-requires c).Else-not-valid_block_size))
 
-pub returns-then-choose_up_to-gt4294967296 : goal.returns-then-choose_up_to-gt4294967296
-returns-then-choose_up_to-gt4294967296 c =
+pub returns-then-many : goal.returns-then-many
+returns-then-many c =
     let a = c.args in
     let r = c.bits_refusal-refusal in
-    let n = c.choose_up_to in
+    let n = c.choose_up_to-many in
     let more : 2 ^ 32 < n.result = omega arith in
-    too_many a.block_size a.k (take a.k a.bits) (size_ok (goal.at.returns-then-choose_up_to-gt4294967296 c).Else-not-valid_block_size) (width_ok (goal.at.returns-then-choose_up_to-gt4294967296 c).Else-not-valid_width) c.if-k-block_size.false
+    too_many a.block_size a.k (take a.k a.bits) (size_ok (goal.at.returns-then-many c).Else-not-valid_block_size) (width_ok (goal.at.returns-then-many c).Else-not-valid_width) c.if-k-block_size.false
     r.result n.result r.ensures c.if-refusal-ne0.false n.ensures more
 
 pub rank_of-requires : goal.rank_of-requires
 rank_of-requires c =
     let a = c.args in
     let r = c.bits_refusal-refusal in
-    let n = c.choose_up_to in
+    let n = c.choose_up_to-many in
     let few : n.result ≤ 2 ^ 32 = omega arith in (
       omega (arith, valid_facts a.block_size (size_ok (goal.at.rank_of-requires c).Else-not-valid_block_size)),
       rw (sized (goal.at.rank_of-requires c).Else-k-block_size) (told_within a.block_size a.k n.result n.ensures few),
@@ -81,6 +81,6 @@ pub returns : goal.returns
 returns c =
     let a = c.args in
     let r = c.bits_refusal-refusal in
-    let n = c.choose_up_to in
+    let n = c.choose_up_to-many in
     taken a.block_size a.k (take a.k a.bits) (size_ok (goal.at.returns c).Else-not-valid_block_size) (width_ok (goal.at.returns c).Else-not-valid_width) c.if-k-block_size.false
-    r.result n.result c.rank_of.result r.ensures c.if-refusal-ne0.false n.ensures c.if-choose_up_to-gt4294967296.false c.rank_of.ensures
+    r.result n.result c.rank_of.result r.ensures c.if-refusal-ne0.false n.ensures c.if-many.false c.rank_of.ensures
