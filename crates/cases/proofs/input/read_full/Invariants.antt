@@ -1,4 +1,3 @@
--- proofs/input/read_full/Invariants.antt
 -- Each turn goes on within the space.
 use Rattle.std.proofs.Common.{length, ◌-◌, ◌≤◌}
 use Rattle.cases.proofs.input.read_full.Given as goal
