@@ -26,5 +26,6 @@ fn room() -> [u8; 262144]
 // All cases of a text: first the roots, then the scores.
 fn replay(stdout: Stdout, text: &[u8]) -> io::Result<()> {
     let at = roots::replay(stdout, text, 0)?;
-    scores::replay(stdout, text, at)
+    scores::replay(stdout, text, at)?;
+    Ok(())
 }
