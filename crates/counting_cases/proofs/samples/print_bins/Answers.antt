@@ -23,6 +23,7 @@ slice_bounds-print_counted-end c =
     sym (lent _ c.bin_count-size.result c.no_bins-bins.result c.requires.countable.1 c.bin_count-size.ensures c.no_bins-bins.ensures)
 
 pub print_counted-requires-clause-countable : goal.print_counted-requires-clause-countable
-print_counted-requires-clause-countable c =
-    (c.requires.countable,
-    lent _ c.bin_count-size.result c.no_bins-bins.result c.requires.countable.1 c.bin_count-size.ensures c.no_bins-bins.ensures ∙ c.bin_count-size.ensures)
+print_counted-requires-clause-countable c = (
+  c.requires.countable,
+  lent _ c.bin_count-size.result c.no_bins-bins.result c.requires.countable.1 c.bin_count-size.ensures c.no_bins-bins.ensures ∙ c.bin_count-size.ensures,
+)
