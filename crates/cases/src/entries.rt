@@ -2,22 +2,20 @@
 ghost use Rattle.std.specs.Prelude.{◌≤◌};
 
 use crate::printing::print;
+use std::io;
+use std::io::Stdout;
 use std::num::wrapping_add_u64;
 
 // Prints the first `shown` entries.
-pub fn print_first(entries: &[u32], shown: usize) {
-    let mut i = 0;
-    while i < entries.len() {
-        if i == shown {
-            break;
-        }
-        print_entry(entries[i]);
-        i += 1;
+pub fn print_first(stdout: Stdout, entries: &[u32], shown: usize) -> io::Result<()> {
+    for entry in entries.iter().take(shown) {
+        print_entry(stdout, *entry)?;
     }
+    Ok(())
 }
 
-fn print_entry(entry: u32) {
-    print(entry as u64);
+fn print_entry(stdout: Stdout, entry: u32) -> io::Result<()> {
+    print(stdout, entry as u64)
 }
 
 // How many entries from a place on are no longer as lent.

@@ -2,11 +2,14 @@
 ghost use Rattle.std.specs.Prelude.{◌≡◌, length};
 
 use crate::earlier::lay;
+use crate::input::large_buffer;
 use crate::printing::{end_line, print};
 use crate::reading::{at_most, bytes, number};
 use sampling::carrying::{Earlier, carry_over};
 use sampling::feeding::feed;
 use sampling::sampler::{Head, Sampler, start};
+use std::io;
+use std::io::Stdout;
 
 // The refusal of the start or the carry-over, the sampler last returned, and the place reached in the text.
 #[derive(Clone, Copy)]
@@ -34,24 +37,25 @@ pub fn dirty() -> [u64; 8192]
 // bytes. Prints a line: the first refusal; for each feed its refusal, n after it, and how many unfinished bytes its board has; the bit order of the sampler last
 // returned, 1 where the low bit comes first, else 0.
 pub fn record(
+    stdout: Stdout,
     text: &[u8],
     at: usize,
     block_size: usize,
     low_first: bool,
     words: &mut [u64],
-) -> Recorded {
+) -> io::Result<Recorded> {
     let begun = begin(text, at, block_size, low_first, words);
-    print(begun.refusal as u64);
-    let fed = feed_all(text, begun.at, begun.sampler, words);
+    print(stdout, begun.refusal as u64)?;
+    let fed = feed_all(stdout, text, begun.at, begun.sampler, words)?;
     let sampler = fed.sampler;
     let head = sampler.head;
-    print(head.low_first as u64);
-    end_line();
-    Recorded {
+    print(stdout, head.low_first as u64)?;
+    end_line(stdout)?;
+    Ok(Recorded {
         refusal: begun.refusal,
         sampler,
         at: fed.at,
-    }
+    })
 }
 
 // 0 for a start; 1 for a carry-over, with what the earlier sampler says of its words and of the bytes taken, whether all words are ones before they are laid,
@@ -85,7 +89,7 @@ fn begin(
 }
 
 fn carry(text: &[u8], at: usize, earlier: Earlier, words: &mut [u64]) -> Recorded {
-    let mut piece = io::large_buffer();
+    let mut piece = large_buffer();
     let ones = number(text, at);
     let size = number(text, ones.at);
     let length = at_most(size.value, 65536);
@@ -120,26 +124,31 @@ fn carry_laid(
 }
 
 // The number of feeds, then the feeds, each given the sampler last returned.
-fn feed_all(text: &[u8], at: usize, sampler: Sampler, words: &mut [u64]) -> State {
+fn feed_all(
+    stdout: Stdout,
+    text: &[u8],
+    at: usize,
+    sampler: Sampler,
+    words: &mut [u64],
+) -> io::Result<State> {
     let feeds = number(text, at);
     let mut state = State {
         sampler,
         at: feeds.at,
     };
-    let mut left = feeds.value;
-    while left > 0 {
-        state = feed_one(text, state, words);
-        left -= 1;
+    for _ in 0..feeds.value {
+        state = feed_one(stdout, text, state, words)?;
     }
-    state
+    Ok(state)
 }
 
-fn feed_one(text: &[u8], state: State, words: &mut [u64]) -> State {
-    let mut piece = io::large_buffer();
+fn feed_one(stdout: Stdout, text: &[u8], state: State, words: &mut [u64]) -> io::Result<State> {
+    let mut piece = large_buffer();
     let board = number(text, state.at);
     let size = number(text, board.at);
     let length = at_most(size.value, 65536);
     feed_piece(
+        stdout,
         text,
         size.at,
         state.sampler,
@@ -151,24 +160,25 @@ fn feed_one(text: &[u8], state: State, words: &mut [u64]) -> State {
 
 // Reads the piece and feeds it.
 fn feed_piece(
+    stdout: Stdout,
     text: &[u8],
     at: usize,
     sampler: Sampler,
     board: usize,
     words: &mut [u64],
     piece: &mut [u8],
-) -> State {
+) -> io::Result<State> {
     let after = bytes(text, at, piece);
     let fed = feed(sampler, words, board, piece);
     let next = fed.sampler;
     let head = next.head;
-    print(fed.refusal as u64);
-    print(head.blocks as u64);
-    print(pending(head, board) as u64);
-    State {
+    print(stdout, fed.refusal as u64)?;
+    print(stdout, head.blocks as u64)?;
+    print(stdout, pending(head, board) as u64)?;
+    Ok(State {
         sampler: next,
         at: after,
-    }
+    })
 }
 
 // How many unfinished bytes a board has; 0 where there is none such.

@@ -1,8 +1,11 @@
-// What the programs that replay stored answers share: whole decimal numbers, read from a text and printed, doubles and lent entries printed, and recordings
+// What the programs that replay stored answers share: standard input, whole decimal numbers, read from a text and printed, doubles and lent entries printed, and recordings
 // of boards fed in pieces.
+#![tactic(auto)]
+
 pub mod earlier;
 pub mod entries;
 pub mod feeding;
+pub mod input;
 pub mod patterns;
 pub mod printing;
 pub mod reading;

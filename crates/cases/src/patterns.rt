@@ -1,5 +1,7 @@
 // Doubles as bit patterns. A NaN's pattern is free, so every NaN is printed as the largest number, a pattern that no other double has.
 use crate::printing::print;
+use std::io;
+use std::io::Stdout;
 
 // The double of a pattern.
 pub fn double(pattern: u64) -> f64 {
@@ -9,10 +11,9 @@ pub fn double(pattern: u64) -> f64 {
     f64::from_bits(pattern)
 }
 
-pub fn print_double(x: f64) {
+pub fn print_double(stdout: Stdout, x: f64) -> io::Result<()> {
     if x != x {
-        print(18446744073709551615);
-        return;
+        return print(stdout, 18446744073709551615);
     }
-    print(f64::to_bits(x));
+    print(stdout, f64::to_bits(x))
 }

@@ -1,7 +1,9 @@
-// Numbers to standard output. What cannot be written is lost: the comparison of the output then fails.
+// Numbers to standard output.
+use std::io;
+use std::io::{Print, Stdout};
 
 // The number's decimal digits and a space, in one write.
-pub fn print(value: u64) {
+pub fn print(stdout: Stdout, value: u64) -> io::Result<()> {
     let mut text = [b' '; 21];
     let mut start = 20;
     let mut rest = value;
@@ -13,11 +15,11 @@ pub fn print(value: u64) {
             break;
         }
     }
-    io::write_all(1, &text[start..]);
+    stdout.write_all(&text[start..])
 }
 
-pub fn end_line() {
-    io::write_all(1, b"\n");
+pub fn end_line(stdout: Stdout) -> io::Result<()> {
+    stdout.write_all(b"\n")
 }
 
 // The last decimal digit of a number, in ASCII.

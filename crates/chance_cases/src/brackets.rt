@@ -4,19 +4,20 @@ ghost use Rattle.std.specs.Prelude.{◌≡◌, length};
 use cases::printing::{end_line, print};
 use cases::reading::{at_most, number};
 use chance::bracket::bracket;
+use std::io;
+use std::io::Stdout;
 
 // The number of cases, then the cases.
-pub fn replay(text: &[u8], at: usize) {
+pub fn replay(stdout: Stdout, text: &[u8], at: usize) -> io::Result<()> {
     let cases = number(text, at);
     let mut from = cases.at;
-    let mut left = cases.value;
-    while left > 0 {
-        from = replay_one(text, from);
-        left -= 1;
+    for _ in 0..cases.value {
+        from = replay_one(stdout, text, from)?;
     }
+    Ok(())
 }
 
-fn replay_one(text: &[u8], at: usize) -> usize {
+fn replay_one(stdout: Stdout, text: &[u8], at: usize) -> io::Result<usize> {
     let mut scratch = lent();
     let n = number(text, at);
     let c = number(text, n.at);
@@ -25,13 +26,14 @@ fn replay_one(text: &[u8], at: usize) -> usize {
     let room = number(text, d.at);
     let length = at_most(room.value, 4100);
     answer(
+        stdout,
         n.value as usize,
         c.value as usize,
         k.value as usize,
         d.value as usize,
         &mut scratch[..length],
-    );
-    room.at
+    )?;
+    Ok(room.at)
 }
 
 // Three entries more than the longest row.
@@ -41,20 +43,25 @@ fn lent() -> [u64; 4100]
     [99; 4100]
 }
 
-fn answer(n: usize, c: usize, k: usize, d: usize, scratch: &mut [u64]) {
+fn answer(
+    stdout: Stdout,
+    n: usize,
+    c: usize,
+    k: usize,
+    d: usize,
+    scratch: &mut [u64],
+) -> io::Result<()> {
     let bracketed = bracket(n, c, k, d, scratch);
-    print(bracketed.refusal as u64);
-    print(bracketed.low);
-    print(bracketed.high);
-    end_line();
-    print_entries(scratch);
+    print(stdout, bracketed.refusal as u64)?;
+    print(stdout, bracketed.low)?;
+    print(stdout, bracketed.high)?;
+    end_line(stdout)?;
+    print_entries(stdout, scratch)
 }
 
-fn print_entries(entries: &[u64]) {
-    let mut i = 0;
-    while i < entries.len() {
-        print(entries[i]);
-        i += 1;
+fn print_entries(stdout: Stdout, entries: &[u64]) -> io::Result<()> {
+    for entry in entries {
+        print(stdout, *entry)?;
     }
-    end_line();
+    end_line(stdout)
 }

@@ -1,14 +1,20 @@
 // Replays stored cases of the counting crate and prints what it answers; `stdin` lists the cases and says how their answers were made.
+#![tactic(auto)]
+
 mod blocks;
 mod fitting;
 mod samples;
 
 ghost use Rattle.std.specs.Prelude.{◌≡◌, length};
 
-fn main() {
+use cases::input::read_full;
+use std::io;
+use std::io::Stdout;
+
+fn main(rt: HostRuntime) -> io::Result<()> {
     let mut space = room();
-    let length = io::read_full(0, &mut space);
-    replay(&space[..length]);
+    let length = read_full(rt.stdin(), &mut space)?;
+    replay(rt.stdout(), &space[..length])
 }
 
 // For the whole of standard input.
@@ -19,7 +25,7 @@ fn room() -> [u8; 524288]
 }
 
 // All cases of a text: first those of single blocks, then those of samplers.
-fn replay(text: &[u8]) {
-    let at = blocks::replay(text, 0);
-    samples::replay(text, at);
+fn replay(stdout: Stdout, text: &[u8]) -> io::Result<()> {
+    let at = blocks::replay(stdout, text, 0)?;
+    samples::replay(stdout, text, at)
 }

@@ -16,25 +16,27 @@ use counting::block::bin_count;
 use counting::rows::{multi_eval, multi_eval_neg};
 use counting::stretch::Stretch;
 use sampling::sampler::blocks;
+use std::io;
+use std::io::Stdout;
 
 // The number of cases, then the cases.
-pub fn replay(text: &[u8], at: usize) {
+pub fn replay(stdout: Stdout, text: &[u8], at: usize) -> io::Result<()> {
     let cases = number(text, at);
     let mut from = cases.at;
-    let mut left = cases.value;
-    while left > 0 {
-        from = replay_one(text, from);
-        left -= 1;
+    for _ in 0..cases.value {
+        from = replay_one(stdout, text, from)?;
     }
+    Ok(())
 }
 
-fn replay_one(text: &[u8], at: usize) -> usize {
+fn replay_one(stdout: Stdout, text: &[u8], at: usize) -> io::Result<usize> {
     let mut words = dirty();
     let size = number(text, at);
     let order = number(text, size.at);
     let lent = number(text, order.at);
     let count = at_most(lent.value, 8192);
     replay_with(
+        stdout,
         text,
         lent.at,
         at_most(size.value, 1000000),
@@ -44,24 +46,25 @@ fn replay_one(text: &[u8], at: usize) -> usize {
 }
 
 fn replay_with(
+    stdout: Stdout,
     text: &[u8],
     at: usize,
     block_size: usize,
     low_first: bool,
     words: &mut [u64],
-) -> usize {
-    let recorded = record(text, at, block_size, low_first, words);
+) -> io::Result<usize> {
+    let recorded = record(stdout, text, at, block_size, low_first, words)?;
     if recorded.refusal != 0 {
-        return recorded.at;
+        return Ok(recorded.at);
     }
     let stride = row_words(words.len(), block_size);
     let sampler = recorded.sampler;
     let head = sampler.head;
     let n = blocks(head);
-    print(n as u64);
-    end_line();
-    print_rows(words, block_size, stride, n);
-    count_all(text, recorded.at, words, block_size, stride)
+    print(stdout, n as u64)?;
+    end_line(stdout)?;
+    print_rows(stdout, words, block_size, stride, n)?;
+    count_all(stdout, text, recorded.at, words, block_size, stride)
 }
 
 // The words of a row; 0 where there is no such row.
@@ -74,14 +77,19 @@ fn row_words(words: usize, block_size: usize) -> usize {
 }
 
 // Each of the first `rows` rows, as far as it holds n blocks.
-fn print_rows(words: &[u64], rows: usize, stride: usize, n: usize) {
+fn print_rows(
+    stdout: Stdout,
+    words: &[u64],
+    rows: usize,
+    stride: usize,
+    n: usize,
+) -> io::Result<()> {
     let mut from = 0;
-    let mut left = rows;
-    while left > 0 {
-        print_row(words, from, n);
+    for _ in 0..rows {
+        print_row(stdout, words, from, n)?;
         from = next_row(words, from, stride);
-        left -= 1;
     }
+    Ok(())
 }
 
 // The place of the next row, or the end of the words.
@@ -97,18 +105,16 @@ fn next_row(words: &[u64], from: usize, stride: usize) -> usize
 }
 
 // The words from a place on that hold n blocks.
-fn print_row(words: &[u64], from: usize, n: usize) {
-    let mut i = from;
+fn print_row(stdout: Stdout, words: &[u64], from: usize, n: usize) -> io::Result<()> {
     let mut left = n;
-    while i < words.len() {
+    for word in words.iter().skip(from) {
         if left == 0 {
             break;
         }
-        print(lowest(words[i], left));
+        print(stdout, lowest(*word, left))?;
         left = beyond(left);
-        i += 1;
     }
-    end_line();
+    end_line(stdout)
 }
 
 // The lowest `lanes` bits of a word, which has 64.
@@ -127,18 +133,30 @@ fn beyond(left: usize) -> usize {
 }
 
 // The number of subsets, then the subsets.
-fn count_all(text: &[u8], at: usize, words: &[u64], block_size: usize, stride: usize) -> usize {
+fn count_all(
+    stdout: Stdout,
+    text: &[u8],
+    at: usize,
+    words: &[u64],
+    block_size: usize,
+    stride: usize,
+) -> io::Result<usize> {
     let subsets = number(text, at);
     let mut from = subsets.at;
-    let mut left = subsets.value;
-    while left > 0 {
-        from = count_one(text, from, words, block_size, stride);
-        left -= 1;
+    for _ in 0..subsets.value {
+        from = count_one(stdout, text, from, words, block_size, stride)?;
     }
-    from
+    Ok(from)
 }
 
-fn count_one(text: &[u8], at: usize, words: &[u64], block_size: usize, stride: usize) -> usize {
+fn count_one(
+    stdout: Stdout,
+    text: &[u8],
+    at: usize,
+    words: &[u64],
+    block_size: usize,
+    stride: usize,
+) -> io::Result<usize> {
     let mut bits = [0u32; 20];
     let first = number(text, at);
     let end = number(text, first.at);
@@ -150,52 +168,50 @@ fn count_one(text: &[u8], at: usize, words: &[u64], block_size: usize, stride: u
         first: first.value as usize,
         end: end.value as usize,
     };
-    count_subset(text, width.at, &mut bits[..k], words, stretch)
+    count_subset(stdout, text, width.at, &mut bits[..k], words, stretch)
 }
 
 // Reads the bits and counts their bins.
 fn count_subset(
+    stdout: Stdout,
     text: &[u8],
     at: usize,
     bits: &mut [u32],
     words: &[u64],
     stretch: Stretch,
-) -> usize {
+) -> io::Result<usize> {
     let after = numbers(text, at, bits);
-    print_counts(bits, words, stretch);
-    after
+    print_counts(stdout, bits, words, stretch)?;
+    Ok(after)
 }
 
 // Prints 99999999 alone where the rows do not hold the bits or the stretch, or the bits cannot be counted here.
-fn print_counts(bits: &[u32], words: &[u64], stretch: Stretch) {
+fn print_counts(stdout: Stdout, bits: &[u32], words: &[u64], stretch: Stretch) -> io::Result<()> {
     if !rows_in(bits, words, stretch.stride) {
-        print(99999999);
-        end_line();
-        return;
+        print(stdout, 99999999)?;
+        return end_line(stdout);
     }
     if !within(stretch) {
-        print(99999999);
-        end_line();
-        return;
+        print(stdout, 99999999)?;
+        return end_line(stdout);
     }
     if !countable(bits) {
-        print(99999999);
-        end_line();
-        return;
+        print(stdout, 99999999)?;
+        return end_line(stdout);
     }
-    print_bins(bits, words, stretch);
-    print_all_set(bits, words, stretch);
-    end_line();
+    print_bins(stdout, bits, words, stretch)?;
+    print_all_set(stdout, bits, words, stretch)?;
+    end_line(stdout)
 }
 
-fn print_bins(bits: &[u32], words: &[u64], stretch: Stretch)
+fn print_bins(stdout: Stdout, bits: &[u32], words: &[u64], stretch: Stretch) -> io::Result<()>
     requires countable { Countable bits.now }
     requires rows_in { RowsIn words.now stretch.stride bits.now }
     requires within { Within stretch }
 {
     let mut bins = no_bins();
     let size = bin_count(bits.len());
-    print_counted(bits, words, stretch, &mut bins[..size]);
+    print_counted(stdout, bits, words, stretch, &mut bins[..size])
 }
 
 fn no_bins() -> [u32; 1024]
@@ -204,21 +220,26 @@ fn no_bins() -> [u32; 1024]
     [0; 1024]
 }
 
-fn print_counted(bits: &[u32], words: &[u64], stretch: Stretch, bins: &mut [u32])
+fn print_counted(
+    stdout: Stdout,
+    bits: &[u32],
+    words: &[u64],
+    stretch: Stretch,
+    bins: &mut [u32],
+) -> io::Result<()>
     requires countable { Countable bits.now × (length bins.old ≡ 2 ^ length bits.now) }
     requires rows_in { RowsIn words.now stretch.stride bits.now }
     requires within { Within stretch }
 {
     multi_eval_neg(bits, words, stretch, bins);
-    let mut v = 0;
-    while v < bins.len() {
-        print(bins[v] as u64);
-        v += 1;
+    for count in bins.iter() {
+        print(stdout, *count as u64)?;
     }
+    Ok(())
 }
 
 // The bin of all ones by the other call: the last bit goes on from the others.
-fn print_all_set(bits: &[u32], words: &[u64], stretch: Stretch)
+fn print_all_set(stdout: Stdout, bits: &[u32], words: &[u64], stretch: Stretch) -> io::Result<()>
     requires countable { Countable bits.now }
     requires rows_in { RowsIn words.now stretch.stride bits.now }
     requires within { Within stretch }
@@ -227,5 +248,5 @@ fn print_all_set(bits: &[u32], words: &[u64], stretch: Stretch)
     let last = bits.len() - 1;
     let next = bits[last] as usize;
     multi_eval(&bits[..last], next, words, stretch, &mut counts);
-    print(counts[0] as u64);
+    print(stdout, counts[0] as u64)
 }

@@ -2,6 +2,8 @@
 ghost use Rattle.std.specs.Prelude.{◌≡◌, length};
 
 use cases::printing::print;
+use std::io;
+use std::io::Stdout;
 
 // For an order or a scratch.
 pub fn entries() -> [u32; 1280]
@@ -17,14 +19,13 @@ pub fn bytes() -> [u8; 8192]
     [99; 8192]
 }
 
-pub fn print_bytes(written: &[u8]) {
-    let mut i = 0;
-    while i < written.len() {
-        print_byte(written[i]);
-        i += 1;
+pub fn print_bytes(stdout: Stdout, written: &[u8]) -> io::Result<()> {
+    for byte in written {
+        print_byte(stdout, *byte)?;
     }
+    Ok(())
 }
 
-fn print_byte(byte: u8) {
-    print(byte as u64);
+fn print_byte(stdout: Stdout, byte: u8) -> io::Result<()> {
+    print(stdout, byte as u64)
 }

@@ -1,14 +1,20 @@
 // Replays stored cases of the exchange crate and prints what it answers; `stdin` lists the cases and says how their answers were made.
+#![tactic(auto)]
+
 mod buffers;
 mod readings;
 mod writings;
 
 ghost use Rattle.std.specs.Prelude.{◌≡◌, length};
 
-fn main() {
+use cases::input::read_full;
+use std::io;
+use std::io::Stdout;
+
+fn main(rt: HostRuntime) -> io::Result<()> {
     let mut space = room();
-    let length = io::read_full(0, &mut space);
-    replay(&space[..length]);
+    let length = read_full(rt.stdin(), &mut space)?;
+    replay(rt.stdout(), &space[..length])
 }
 
 // For the whole of standard input.
@@ -19,7 +25,7 @@ fn room() -> [u8; 524288]
 }
 
 // All cases of a text: the readings, the writings.
-fn replay(text: &[u8]) {
-    let at = readings::replay(text, 0);
-    writings::replay(text, at);
+fn replay(stdout: Stdout, text: &[u8]) -> io::Result<()> {
+    let at = readings::replay(stdout, text, 0)?;
+    writings::replay(stdout, text, at)
 }

@@ -8,6 +8,8 @@ use cases::printing::{end_line, print};
 use cases::reading::{at_most, number, numbers};
 use exchange::writer::write_finding;
 use searching::finding::Finding;
+use std::io;
+use std::io::Stdout;
 
 // A finding, and the place reached in the text.
 #[derive(Clone, Copy)]
@@ -17,22 +19,21 @@ struct Given {
 }
 
 // The number of cases, then the cases.
-pub fn replay(text: &[u8], at: usize) {
+pub fn replay(stdout: Stdout, text: &[u8], at: usize) -> io::Result<()> {
     let cases = number(text, at);
     let mut from = cases.at;
-    let mut left = cases.value;
-    while left > 0 {
-        from = replay_one(text, from);
-        left -= 1;
+    for _ in 0..cases.value {
+        from = replay_one(stdout, text, from)?;
     }
+    Ok(())
 }
 
-fn replay_one(text: &[u8], at: usize) -> usize {
+fn replay_one(stdout: Stdout, text: &[u8], at: usize) -> io::Result<usize> {
     let mut order = buffers::entries();
     let given = given_at(text, at);
     let length = number(text, given.at);
     let count = at_most(length.value, 1280);
-    with_order(text, length.at, given.finding, &mut order[..count])
+    with_order(stdout, text, length.at, given.finding, &mut order[..count])
 }
 
 fn given_at(text: &[u8], at: usize) -> Given {
@@ -57,33 +58,57 @@ fn given_at(text: &[u8], at: usize) -> Given {
 }
 
 // Reads the order, and goes on to the other buffers.
-fn with_order(text: &[u8], at: usize, finding: Finding, order: &mut [u32]) -> usize {
+fn with_order(
+    stdout: Stdout,
+    text: &[u8],
+    at: usize,
+    finding: Finding,
+    order: &mut [u32],
+) -> io::Result<usize> {
     let after = numbers(text, at, order);
     let scratch = number(text, after);
     let out = number(text, scratch.at);
-    with_scratch(finding, order, scratch.value, out.value);
-    out.at
+    with_scratch(stdout, finding, order, scratch.value, out.value)?;
+    Ok(out.at)
 }
 
-fn with_scratch(finding: Finding, order: &[u32], lent: u64, out: u64) {
+fn with_scratch(
+    stdout: Stdout,
+    finding: Finding,
+    order: &[u32],
+    lent: u64,
+    out: u64,
+) -> io::Result<()> {
     let mut scratch = buffers::entries();
     let count = at_most(lent, 1280);
-    with_out(finding, order, &mut scratch[..count], out);
+    with_out(stdout, finding, order, &mut scratch[..count], out)
 }
 
-fn with_out(finding: Finding, order: &[u32], scratch: &mut [u32], lent: u64) {
+fn with_out(
+    stdout: Stdout,
+    finding: Finding,
+    order: &[u32],
+    scratch: &mut [u32],
+    lent: u64,
+) -> io::Result<()> {
     let mut out = buffers::bytes();
     let count = at_most(lent, 8192);
-    write(finding, order, scratch, &mut out[..count]);
+    write(stdout, finding, order, scratch, &mut out[..count])
 }
 
-fn write(finding: Finding, order: &[u32], scratch: &mut [u32], out: &mut [u8]) {
+fn write(
+    stdout: Stdout,
+    finding: Finding,
+    order: &[u32],
+    scratch: &mut [u32],
+    out: &mut [u8],
+) -> io::Result<()> {
     let written = write_finding(finding, order, scratch, out);
-    print(written.refusal as u64);
-    print(written.length as u64);
-    end_line();
-    buffers::print_bytes(out);
-    end_line();
-    print_first(scratch, scratch.len());
-    end_line();
+    print(stdout, written.refusal as u64)?;
+    print(stdout, written.length as u64)?;
+    end_line(stdout)?;
+    buffers::print_bytes(stdout, out)?;
+    end_line(stdout)?;
+    print_first(stdout, scratch, scratch.len())?;
+    end_line(stdout)
 }

@@ -5,12 +5,15 @@
 ghost use Rattle.std.specs.Prelude.{◌≡◌, length};
 
 use cases::entries::print_first;
+use cases::input::large_buffer;
 use cases::patterns::{double, print_double};
 use cases::printing::{end_line, print};
 use cases::reading::{at_most, bytes, number, numbers};
 use judging::check::validate;
 use judging::evaluation::{Evaluated, Score, evaluate_histogram};
 use searching::finding::Finding;
+use std::io;
+use std::io::Stdout;
 
 // A finding, and the place reached in the text.
 #[derive(Clone, Copy)]
@@ -20,22 +23,21 @@ struct Given {
 }
 
 // The number of cases, then the cases.
-pub fn replay(text: &[u8], at: usize) {
+pub fn replay(stdout: Stdout, text: &[u8], at: usize) -> io::Result<()> {
     let cases = number(text, at);
     let mut from = cases.at;
-    let mut left = cases.value;
-    while left > 0 {
-        from = replay_one(text, from);
-        left -= 1;
+    for _ in 0..cases.value {
+        from = replay_one(stdout, text, from)?;
     }
+    Ok(())
 }
 
-fn replay_one(text: &[u8], at: usize) -> usize {
+fn replay_one(stdout: Stdout, text: &[u8], at: usize) -> io::Result<usize> {
     let mut order = buffer();
     let given = read_finding(text, at);
     let entries = number(text, given.at);
     let count = at_most(entries.value, 1280);
-    with_order(text, entries.at, given.finding, &mut order[..count])
+    with_order(stdout, text, entries.at, given.finding, &mut order[..count])
 }
 
 fn read_finding(text: &[u8], at: usize) -> Given {
@@ -60,13 +62,20 @@ fn read_finding(text: &[u8], at: usize) -> Given {
 }
 
 // Reads the order, and goes on to the bytes.
-fn with_order(text: &[u8], at: usize, finding: Finding, order: &mut [u32]) -> usize {
-    let mut raw = io::large_buffer();
+fn with_order(
+    stdout: Stdout,
+    text: &[u8],
+    at: usize,
+    finding: Finding,
+    order: &mut [u32],
+) -> io::Result<usize> {
+    let mut raw = large_buffer();
     let after = numbers(text, at, order);
     let scratch = number(text, after);
     let length = number(text, scratch.at);
     let count = at_most(length.value, 65536);
     with_bytes(
+        stdout,
         text,
         length.at,
         finding,
@@ -78,59 +87,77 @@ fn with_order(text: &[u8], at: usize, finding: Finding, order: &mut [u32]) -> us
 
 // Reads the bytes, and judges.
 fn with_bytes(
+    stdout: Stdout,
     text: &[u8],
     at: usize,
     finding: Finding,
     order: &[u32],
     scratch: u64,
     raw: &mut [u8],
-) -> usize {
+) -> io::Result<usize> {
     let after = bytes(text, at, raw);
-    check(finding, order, scratch);
-    evaluate(finding, order, raw, scratch);
-    after
+    check(stdout, finding, order, scratch)?;
+    evaluate(stdout, finding, order, raw, scratch)?;
+    Ok(after)
 }
 
-fn check(finding: Finding, order: &[u32], lent: u64) {
+fn check(stdout: Stdout, finding: Finding, order: &[u32], lent: u64) -> io::Result<()> {
     let mut scratch = buffer();
     let count = at_most(lent, 1280);
-    check_with(finding, order, &mut scratch[..count]);
+    check_with(stdout, finding, order, &mut scratch[..count])
 }
 
-fn check_with(finding: Finding, order: &[u32], scratch: &mut [u32]) {
-    print(validate(finding, order, scratch) as u64);
-    end_line();
-    print_first(scratch, scratch.len());
-    end_line();
+fn check_with(
+    stdout: Stdout,
+    finding: Finding,
+    order: &[u32],
+    scratch: &mut [u32],
+) -> io::Result<()> {
+    print(stdout, validate(finding, order, scratch) as u64)?;
+    end_line(stdout)?;
+    print_first(stdout, scratch, scratch.len())?;
+    end_line(stdout)
 }
 
-fn evaluate(finding: Finding, order: &[u32], raw: &[u8], lent: u64) {
+fn evaluate(
+    stdout: Stdout,
+    finding: Finding,
+    order: &[u32],
+    raw: &[u8],
+    lent: u64,
+) -> io::Result<()> {
     let mut scratch = buffer();
     let count = at_most(lent, 1280);
-    evaluate_with(finding, order, raw, &mut scratch[..count]);
+    evaluate_with(stdout, finding, order, raw, &mut scratch[..count])
 }
 
-fn evaluate_with(finding: Finding, order: &[u32], raw: &[u8], scratch: &mut [u32]) {
-    print_evaluated(evaluate_histogram(finding, order, raw, scratch));
-    print_first(scratch, scratch.len());
-    end_line();
+fn evaluate_with(
+    stdout: Stdout,
+    finding: Finding,
+    order: &[u32],
+    raw: &[u8],
+    scratch: &mut [u32],
+) -> io::Result<()> {
+    print_evaluated(stdout, evaluate_histogram(finding, order, raw, scratch))?;
+    print_first(stdout, scratch, scratch.len())?;
+    end_line(stdout)
 }
 
-fn print_evaluated(evaluated: Evaluated) {
-    print(evaluated.refusal as u64);
-    print(evaluated.positive as u64);
+fn print_evaluated(stdout: Stdout, evaluated: Evaluated) -> io::Result<()> {
+    print(stdout, evaluated.refusal as u64)?;
+    print(stdout, evaluated.positive as u64)?;
     let score = evaluated.score;
-    print_score(score);
-    end_line();
+    print_score(stdout, score)?;
+    end_line(stdout)
 }
 
-fn print_score(score: Score) {
+fn print_score(stdout: Stdout, score: Score) -> io::Result<()> {
     match score {
         Score::Z(z) => {
-            print(1);
-            print_double(z);
+            print(stdout, 1)?;
+            print_double(stdout, z)
         }
-        Score::NoSample => print(0),
+        Score::NoSample => print(stdout, 0),
     }
 }
 

@@ -1,14 +1,20 @@
 // Replays stored cases of the judging crate and prints what it answers; `stdin` lists the cases and says how their answers were made.
+#![tactic(auto)]
+
 mod findings;
 mod plans;
 mod splits;
 
 ghost use Rattle.std.specs.Prelude.{◌≡◌, length};
 
-fn main() {
+use cases::input::read_full;
+use std::io;
+use std::io::Stdout;
+
+fn main(rt: HostRuntime) -> io::Result<()> {
     let mut space = room();
-    let length = io::read_full(0, &mut space);
-    replay(&space[..length]);
+    let length = read_full(rt.stdin(), &mut space)?;
+    replay(rt.stdout(), &space[..length])
 }
 
 // For the whole of standard input.
@@ -19,8 +25,8 @@ fn room() -> [u8; 393216]
 }
 
 // All cases of a text: the splits, the plans, the findings.
-fn replay(text: &[u8]) {
-    let at = splits::replay(text, 0);
-    let rest = plans::replay(text, at);
-    findings::replay(text, rest);
+fn replay(stdout: Stdout, text: &[u8]) -> io::Result<()> {
+    let at = splits::replay(stdout, text, 0)?;
+    let rest = plans::replay(stdout, text, at)?;
+    findings::replay(stdout, text, rest)
 }

@@ -2,38 +2,36 @@
 use cases::printing::{end_line, print};
 use cases::reading::number;
 use judging::plan::configurations;
+use std::io;
+use std::io::Stdout;
 
 // The number of cases, then the cases. Answers the place after them.
-pub fn replay(text: &[u8], at: usize) -> usize {
+pub fn replay(stdout: Stdout, text: &[u8], at: usize) -> io::Result<usize> {
     let cases = number(text, at);
     let mut from = cases.at;
-    let mut left = cases.value;
-    while left > 0 {
-        from = replay_one(text, from);
-        left -= 1;
+    for _ in 0..cases.value {
+        from = replay_one(stdout, text, from)?;
     }
-    from
+    Ok(from)
 }
 
-fn replay_one(text: &[u8], at: usize) -> usize {
+fn replay_one(stdout: Stdout, text: &[u8], at: usize) -> io::Result<usize> {
     let size = number(text, at);
     let length = number(text, size.at);
     let plan = configurations(size.value as usize, length.value as usize);
     let blocks = plan.blocks;
     let widths = plan.widths;
-    print(plan.refusal as u64);
-    print(plan.pairs as u64);
-    end_line();
-    print_sizes(&blocks);
-    print_sizes(&widths);
-    length.at
+    print(stdout, plan.refusal as u64)?;
+    print(stdout, plan.pairs as u64)?;
+    end_line(stdout)?;
+    print_sizes(stdout, &blocks)?;
+    print_sizes(stdout, &widths)?;
+    Ok(length.at)
 }
 
-fn print_sizes(sizes: &[usize]) {
-    let mut i = 0;
-    while i < sizes.len() {
-        print(sizes[i] as u64);
-        i += 1;
+fn print_sizes(stdout: Stdout, sizes: &[usize]) -> io::Result<()> {
+    for size in sizes {
+        print(stdout, *size as u64)?;
     }
-    end_line();
+    end_line(stdout)
 }

@@ -1,12 +1,17 @@
 // Makes the replays of stored cases and prints what is answered and left; `stdin` lists the cases and says how their answers were made.
+#![tactic(auto)]
+
 mod replays;
 
 ghost use Rattle.std.specs.Prelude.{◌≡◌, length};
 
-fn main() {
+use cases::input::read_full;
+use std::io;
+
+fn main(rt: HostRuntime) -> io::Result<()> {
     let mut space = room();
-    let length = io::read_full(0, &mut space);
-    replays::answer_all(&space[..length]);
+    let length = read_full(rt.stdin(), &mut space)?;
+    replays::answer_all(rt.stdout(), &space[..length])
 }
 
 // For the whole of standard input.

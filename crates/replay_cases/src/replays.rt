@@ -12,6 +12,8 @@ use cases::printing::{end_line, print};
 use cases::reading::{at_most, bytes, number};
 use layers::size::store_needed;
 use replay::replay::{Replayed, replay};
+use std::io;
+use std::io::Stdout;
 
 // What a replay is given beside the recording and its lengths, and the place reached in the text.
 #[derive(Clone, Copy)]
@@ -27,22 +29,21 @@ struct Case {
 }
 
 // The number of cases, then the cases.
-pub fn answer_all(text: &[u8]) {
+pub fn answer_all(stdout: Stdout, text: &[u8]) -> io::Result<()> {
     let cases = number(text, 0);
     let mut from = cases.at;
-    let mut left = cases.value;
-    while left > 0 {
-        from = answer_one(text, from);
-        left -= 1;
+    for _ in 0..cases.value {
+        from = answer_one(stdout, text, from)?;
     }
+    Ok(())
 }
 
-fn answer_one(text: &[u8], at: usize) -> usize {
+fn answer_one(stdout: Stdout, text: &[u8], at: usize) -> io::Result<usize> {
     let mut recording = silence();
     let case = read_case(text, at);
     let size = number(text, case.at);
     let count = at_most(size.value, 8192);
-    with_recording(text, size.at, case, &mut recording[..count])
+    with_recording(stdout, text, size.at, case, &mut recording[..count])
 }
 
 fn read_case(text: &[u8], at: usize) -> Case {
@@ -66,24 +67,38 @@ fn read_case(text: &[u8], at: usize) -> Case {
 }
 
 // Reads the recording, then the number of lengths.
-fn with_recording(text: &[u8], at: usize, case: Case, recording: &mut [u8]) -> usize {
+fn with_recording(
+    stdout: Stdout,
+    text: &[u8],
+    at: usize,
+    case: Case,
+    recording: &mut [u8],
+) -> io::Result<usize> {
     let mut lengths = no_lengths();
     let size = number(text, bytes(text, at, recording));
     let count = at_most(size.value, 64);
-    with_lengths(text, size.at, case, recording, &mut lengths[..count])
+    with_lengths(
+        stdout,
+        text,
+        size.at,
+        case,
+        recording,
+        &mut lengths[..count],
+    )
 }
 
 // Reads the lengths, and answers.
 fn with_lengths(
+    stdout: Stdout,
     text: &[u8],
     at: usize,
     case: Case,
     recording: &[u8],
     lengths: &mut [usize],
-) -> usize {
+) -> io::Result<usize> {
     let after = read_lengths(text, at, lengths);
-    lend(case, recording, lengths);
-    after
+    lend(stdout, case, recording, lengths)?;
+    Ok(after)
 }
 
 // Fills `to` with the next numbers; answers the place after them.
@@ -100,7 +115,7 @@ fn read_lengths(text: &[u8], at: usize, to: &mut [usize]) -> usize {
 }
 
 // Lends as many entries as the case says.
-fn lend(case: Case, recording: &[u8], lengths: &[usize]) {
+fn lend(stdout: Stdout, case: Case, recording: &[u8], lengths: &[usize]) -> io::Result<()> {
     let mut words = dirty();
     let mut counts = store();
     let mut bins = buffer();
@@ -110,6 +125,7 @@ fn lend(case: Case, recording: &[u8], lengths: &[usize]) {
     let c = at_most(case.bins, 512);
     let d = at_most(case.order, 512);
     answer(
+        stdout,
         case,
         recording,
         lengths,
@@ -117,10 +133,11 @@ fn lend(case: Case, recording: &[u8], lengths: &[usize]) {
         &mut counts[..b],
         &mut bins[..c],
         &mut order[..d],
-    );
+    )
 }
 
 fn answer(
+    stdout: Stdout,
     case: Case,
     recording: &[u8],
     lengths: &[usize],
@@ -128,7 +145,7 @@ fn answer(
     store: &mut [u32],
     bins: &mut [u32],
     order: &mut [u32],
-) {
+) -> io::Result<()> {
     let replayed = replay(
         case.block_size,
         case.low_first,
@@ -140,46 +157,44 @@ fn answer(
         bins,
         order,
     );
-    print_replayed(replayed);
-    print_words(words);
-    print_all(bins);
-    print_all(order);
+    print_replayed(stdout, replayed)?;
+    print_words(stdout, words)?;
+    print_all(stdout, bins)?;
+    print_all(stdout, order)?;
     let kept = kept_entries(replayed.layered, case.block_size, case.k);
-    print(changed(store, kept) as u64);
-    print(weighed(store, kept));
-    end_line();
+    print(stdout, changed(store, kept) as u64)?;
+    print(stdout, weighed(store, kept))?;
+    end_line(stdout)
 }
 
-fn print_replayed(replayed: Replayed) {
+fn print_replayed(stdout: Stdout, replayed: Replayed) -> io::Result<()> {
     let finding = replayed.finding;
     let bits = finding.bits;
-    print(replayed.refusal as u64);
-    print(replayed.refused as u64);
-    print(replayed.layered as u64);
-    print(replayed.agree as u64);
-    print(finding.block_size as u64);
-    print(finding.width as u64);
-    print_first(&bits, 20);
-    print(finding.division as u64);
-    print_double(finding.z);
-    print(finding.low_first as u64);
-    end_line();
+    print(stdout, replayed.refusal as u64)?;
+    print(stdout, replayed.refused as u64)?;
+    print(stdout, replayed.layered as u64)?;
+    print(stdout, replayed.agree as u64)?;
+    print(stdout, finding.block_size as u64)?;
+    print(stdout, finding.width as u64)?;
+    print_first(stdout, &bits, 20)?;
+    print(stdout, finding.division as u64)?;
+    print_double(stdout, finding.z)?;
+    print(stdout, finding.low_first as u64)?;
+    end_line(stdout)
 }
 
 // A line with all words.
-fn print_words(words: &[u64]) {
-    let mut i = 0;
-    while i < words.len() {
-        print(words[i]);
-        i += 1;
+fn print_words(stdout: Stdout, words: &[u64]) -> io::Result<()> {
+    for word in words {
+        print(stdout, *word)?;
     }
-    end_line();
+    end_line(stdout)
 }
 
 // A line with all entries.
-fn print_all(entries: &[u32]) {
-    print_first(entries, entries.len());
-    end_line();
+fn print_all(stdout: Stdout, entries: &[u32]) -> io::Result<()> {
+    print_first(stdout, entries, entries.len())?;
+    end_line(stdout)
 }
 
 // Room for a recording.

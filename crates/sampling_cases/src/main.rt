@@ -1,12 +1,17 @@
 // Replays stored cases of the sampling crate and prints what it answers; `stdin` lists the cases and says how their answers were made.
+#![tactic(auto)]
+
 mod samplers;
 
 ghost use Rattle.std.specs.Prelude.{◌≡◌, length};
 
-fn main() {
+use cases::input::read_full;
+use std::io;
+
+fn main(rt: HostRuntime) -> io::Result<()> {
     let mut space = room();
-    let length = io::read_full(0, &mut space);
-    samplers::replay(&space[..length]);
+    let length = read_full(rt.stdin(), &mut space)?;
+    samplers::replay(rt.stdout(), &space[..length])
 }
 
 // For the whole of standard input.

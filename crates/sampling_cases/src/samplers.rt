@@ -8,25 +8,27 @@ use cases::feeding::{dirty, pending, record};
 use cases::printing::{end_line, print};
 use cases::reading::{at_most, number};
 use sampling::sampler::Head;
+use std::io;
+use std::io::Stdout;
 
 // The number of cases, then the cases.
-pub fn replay(text: &[u8]) {
+pub fn replay(stdout: Stdout, text: &[u8]) -> io::Result<()> {
     let cases = number(text, 0);
     let mut from = cases.at;
-    let mut left = cases.value;
-    while left > 0 {
-        from = replay_one(text, from);
-        left -= 1;
+    for _ in 0..cases.value {
+        from = replay_one(stdout, text, from)?;
     }
+    Ok(())
 }
 
-fn replay_one(text: &[u8], at: usize) -> usize {
+fn replay_one(stdout: Stdout, text: &[u8], at: usize) -> io::Result<usize> {
     let mut words = dirty();
     let size = number(text, at);
     let order = number(text, size.at);
     let lent = number(text, order.at);
     let count = at_most(lent.value, 8192);
     replay_with(
+        stdout,
         text,
         lent.at,
         size.value as usize,
@@ -36,53 +38,53 @@ fn replay_one(text: &[u8], at: usize) -> usize {
 }
 
 fn replay_with(
+    stdout: Stdout,
     text: &[u8],
     at: usize,
     block_size: usize,
     low_first: bool,
     words: &mut [u64],
-) -> usize {
-    let recorded = record(text, at, block_size, low_first, words);
+) -> io::Result<usize> {
+    let recorded = record(stdout, text, at, block_size, low_first, words)?;
     let sampler = recorded.sampler;
     let head = sampler.head;
     let unfinished = sampler.unfinished;
-    print_head(head);
-    print_board(head, 0, &unfinished);
-    print_board(head, 1, &unfinished);
-    print_board(head, 2, &unfinished);
-    print_board(head, 3, &unfinished);
-    print_words(words);
-    recorded.at
+    print_head(stdout, head)?;
+    print_board(stdout, head, 0, &unfinished)?;
+    print_board(stdout, head, 1, &unfinished)?;
+    print_board(stdout, head, 2, &unfinished)?;
+    print_board(stdout, head, 3, &unfinished)?;
+    print_words(stdout, words)?;
+    Ok(recorded.at)
 }
 
-fn print_head(head: Head) {
-    print(head.block_size as u64);
-    print(head.words as u64);
-    print(head.blocks as u64);
-    print(head.low_first as u64);
-    print(pending(head, 0) as u64);
-    print(pending(head, 1) as u64);
-    print(pending(head, 2) as u64);
-    print(pending(head, 3) as u64);
-    end_line();
+fn print_head(stdout: Stdout, head: Head) -> io::Result<()> {
+    print(stdout, head.block_size as u64)?;
+    print(stdout, head.words as u64)?;
+    print(stdout, head.blocks as u64)?;
+    print(stdout, head.low_first as u64)?;
+    print(stdout, pending(head, 0) as u64)?;
+    print(stdout, pending(head, 1) as u64)?;
+    print(stdout, pending(head, 2) as u64)?;
+    print(stdout, pending(head, 3) as u64)?;
+    end_line(stdout)
 }
 
 // The board's unfinished bytes, and how many behind them are not 0.
-fn print_board(head: Head, board: usize, unfinished: &[u8]) {
+fn print_board(stdout: Stdout, head: Head, board: usize, unfinished: &[u8]) -> io::Result<()> {
     let t = pending(head, board);
-    print_unfinished(board, t, unfinished);
-    print(others(board, t, unfinished) as u64);
-    end_line();
+    print_unfinished(stdout, board, t, unfinished)?;
+    print(stdout, others(board, t, unfinished) as u64)?;
+    end_line(stdout)
 }
 
-fn print_unfinished(board: usize, t: usize, unfinished: &[u8]) {
-    let mut i = 0;
-    while i < unfinished.len() {
+fn print_unfinished(stdout: Stdout, board: usize, t: usize, unfinished: &[u8]) -> io::Result<()> {
+    for (i, byte) in unfinished.iter().enumerate() {
         if within(board, i, 0, t) {
-            print_byte(unfinished[i]);
+            print_byte(stdout, *byte)?;
         }
-        i += 1;
     }
+    Ok(())
 }
 
 fn others(board: usize, t: usize, unfinished: &[u8]) -> usize {
@@ -106,8 +108,8 @@ fn within(board: usize, i: usize, first: usize, end: usize) -> bool {
     i % 512 < end
 }
 
-fn print_byte(byte: u8) {
-    print(byte as u64);
+fn print_byte(stdout: Stdout, byte: u8) -> io::Result<()> {
+    print(stdout, byte as u64)
 }
 
 // 1 where it is one of them and not 0.
@@ -120,15 +122,13 @@ fn other(byte: u8, one: bool) -> usize
     if one { 1 } else { 0 }
 }
 
-fn print_words(words: &[u64]) {
-    let mut i = 0;
-    while i < words.len() {
-        print_word(words[i]);
-        i += 1;
+fn print_words(stdout: Stdout, words: &[u64]) -> io::Result<()> {
+    for word in words {
+        print_word(stdout, *word)?;
     }
-    end_line();
+    end_line(stdout)
 }
 
-fn print_word(word: u64) {
-    print(word);
+fn print_word(stdout: Stdout, word: u64) -> io::Result<()> {
+    print(stdout, word)
 }

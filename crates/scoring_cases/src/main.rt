@@ -1,13 +1,19 @@
 // Replays stored cases of the scoring crate and prints what it answers; `stdin` lists the cases and says how their answers were made.
+#![tactic(auto)]
+
 mod roots;
 mod scores;
 
 ghost use Rattle.std.specs.Prelude.{◌≡◌, length};
 
-fn main() {
+use cases::input::read_full;
+use std::io;
+use std::io::Stdout;
+
+fn main(rt: HostRuntime) -> io::Result<()> {
     let mut space = room();
-    let length = io::read_full(0, &mut space);
-    replay(&space[..length]);
+    let length = read_full(rt.stdin(), &mut space)?;
+    replay(rt.stdout(), &space[..length])
 }
 
 // For the whole of standard input.
@@ -18,7 +24,8 @@ fn room() -> [u8; 262144]
 }
 
 // All cases of a text: first the roots, then the scores.
-fn replay(text: &[u8]) {
-    let at = roots::replay(text, 0);
-    scores::replay(text, at);
+fn replay(stdout: Stdout, text: &[u8]) -> io::Result<()> {
+    let at = roots::replay(stdout, text, 0)?;
+    scores::replay(stdout, text, at)?;
+    Ok(())
 }

@@ -6,32 +6,32 @@ use cases::printing::end_line;
 use cases::reading::{at_most, number, numbers};
 use scoring::halves::share;
 use scoring::score::{absolute, z_score};
+use std::io;
+use std::io::Stdout;
 
 // The number of cases, then the cases. Answers the place after them.
-pub fn replay(text: &[u8], at: usize) -> usize {
+pub fn replay(stdout: Stdout, text: &[u8], at: usize) -> io::Result<usize> {
     let cases = number(text, at);
     let mut from = cases.at;
-    let mut left = cases.value;
-    while left > 0 {
-        from = replay_one(text, from);
-        left -= 1;
+    for _ in 0..cases.value {
+        from = replay_one(stdout, text, from)?;
     }
-    from
+    Ok(from)
 }
 
-fn replay_one(text: &[u8], at: usize) -> usize {
+fn replay_one(stdout: Stdout, text: &[u8], at: usize) -> io::Result<usize> {
     let mut row = [0u32; 3];
     let after = numbers(text, at, &mut row);
     let width = number(text, after);
-    answer(row[0], row[1], row[2], at_most(width.value, 20));
-    width.at
+    answer(stdout, row[0], row[1], row[2], at_most(width.value, 20))?;
+    Ok(width.at)
 }
 
-fn answer(n: u32, c: u32, i: u32, k: usize)
+fn answer(stdout: Stdout, n: u32, c: u32, i: u32, k: usize) -> io::Result<()>
     requires { k ≤ 20 }
 {
     let z = z_score(n, c, share(i, k));
-    print_double(z);
-    print_double(absolute(z));
-    end_line();
+    print_double(stdout, z)?;
+    print_double(stdout, absolute(z))?;
+    end_line(stdout)
 }

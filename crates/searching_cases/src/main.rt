@@ -1,14 +1,20 @@
 // Replays stored cases of ranks, rankings and searches and prints what our crates answer; `stdin` lists the cases and says how their answers were made.
+#![tactic(auto)]
+
 mod rankings;
 mod ranks;
 mod searches;
 
 ghost use Rattle.std.specs.Prelude.{◌≡◌, length};
 
-fn main() {
+use cases::input::read_full;
+use std::io;
+use std::io::Stdout;
+
+fn main(rt: HostRuntime) -> io::Result<()> {
     let mut space = room();
-    let length = io::read_full(0, &mut space);
-    replay(&space[..length]);
+    let length = read_full(rt.stdin(), &mut space)?;
+    replay(rt.stdout(), &space[..length])
 }
 
 // For the whole of standard input.
@@ -19,8 +25,8 @@ fn room() -> [u8; 655360]
 }
 
 // All cases of a text: the ranks of subsets, the rankings of counts, the searches.
-fn replay(text: &[u8]) {
-    let at = ranks::replay(text, 0);
-    let rest = rankings::replay(text, at);
-    searches::replay(text, rest);
+fn replay(stdout: Stdout, text: &[u8]) -> io::Result<()> {
+    let at = ranks::replay(stdout, text, 0)?;
+    let rest = rankings::replay(stdout, text, at)?;
+    searches::replay(stdout, text, rest)
 }

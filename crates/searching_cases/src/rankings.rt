@@ -9,20 +9,20 @@ use cases::printing::{end_line, print};
 use cases::reading::{at_most, number, numbers};
 use counting::block::bin_count;
 use ranking::ranking::{fill_roots, from_bins};
+use std::io;
+use std::io::Stdout;
 
 // The number of cases, then the cases. Answers the place after them.
-pub fn replay(text: &[u8], at: usize) -> usize {
+pub fn replay(stdout: Stdout, text: &[u8], at: usize) -> io::Result<usize> {
     let cases = number(text, at);
     let mut from = cases.at;
-    let mut left = cases.value;
-    while left > 0 {
-        from = replay_one(text, from);
-        left -= 1;
+    for _ in 0..cases.value {
+        from = replay_one(stdout, text, from)?;
     }
-    from
+    Ok(from)
 }
 
-fn replay_one(text: &[u8], at: usize) -> usize {
+fn replay_one(stdout: Stdout, text: &[u8], at: usize) -> io::Result<usize> {
     let mut bins = lent();
     let mut order = lent();
     let mut roots = no_roots();
@@ -31,6 +31,7 @@ fn replay_one(text: &[u8], at: usize) -> usize {
     let k = at_most(width.value, 12);
     let known = at_most(table.value, 4096);
     rank(
+        stdout,
         text,
         table.at,
         k,
@@ -63,33 +64,39 @@ fn bins_of(k: usize) -> usize
 
 // Reads the counts into the first 2 ^ k bins, and ranks them.
 fn rank(
+    stdout: Stdout,
     text: &[u8],
     at: usize,
     k: usize,
     bins: &mut [u32],
     order: &mut [u32],
     roots: &mut [f64],
-) -> usize
+) -> io::Result<usize>
     requires { (k ≤ 12) × (length bins.old ≡ 4098) × (length order.old ≡ 4098) × (length roots.old ≤ 4096) }
 {
     let m = bins_of(k);
     let after = numbers(text, at, &mut bins[..m]);
-    answer(bins, order, k, roots);
-    after
+    answer(stdout, bins, order, k, roots)?;
+    Ok(after)
 }
 
 // Prints 99999999 alone where the counts add up to more than the largest u32.
-fn answer(bins: &[u32], order: &mut [u32], k: usize, roots: &mut [f64])
+fn answer(
+    stdout: Stdout,
+    bins: &[u32],
+    order: &mut [u32],
+    k: usize,
+    roots: &mut [f64],
+) -> io::Result<()>
     requires { (k ≤ 12) × (length bins.now ≡ 4098) × (length order.old ≡ 4098) × (length roots.old ≤ 4096) }
 {
     let m = bins_of(k);
     let n = blocks(&bins[..m]);
     if n > 4294967295 {
-        print(99999999);
-        end_line();
-        return;
+        print(stdout, 99999999)?;
+        return end_line(stdout);
     }
-    answer_for(bins, order, n as u32, k, roots);
+    answer_for(stdout, bins, order, n as u32, k, roots)
 }
 
 // The sum of the counts.
@@ -112,15 +119,22 @@ fn wide(count: u32) -> usize
     count as usize
 }
 
-fn answer_for(bins: &[u32], order: &mut [u32], n: u32, k: usize, roots: &mut [f64])
+fn answer_for(
+    stdout: Stdout,
+    bins: &[u32],
+    order: &mut [u32],
+    n: u32,
+    k: usize,
+    roots: &mut [f64],
+) -> io::Result<()>
     requires { (k ≤ 12) × (length bins.now ≡ 4098) × (length order.old ≡ 4098) × (length roots.old ≤ 4096) × (total (take (2 ^ k) bins.now) ≡ n) }
 {
     let m = bins_of(k);
     fill_roots(roots, n, k);
     let ranking = from_bins(bins, order, n, k, roots);
-    print(ranking.division as u64);
-    print_double(ranking.z);
-    end_line();
-    print_first(order, m + 2);
-    end_line();
+    print(stdout, ranking.division as u64)?;
+    print_double(stdout, ranking.z)?;
+    end_line(stdout)?;
+    print_first(stdout, order, m + 2)?;
+    end_line(stdout)
 }

@@ -17,6 +17,8 @@ use layers::size::store_needed;
 use sampling::sampler::Head;
 use searching::finding::Searched;
 use searching::search::bottomup;
+use std::io;
+use std::io::Stdout;
 
 // What the searches are given, and the place reached in the text.
 #[derive(Clone, Copy)]
@@ -39,23 +41,23 @@ struct Given {
 }
 
 // The number of cases, then the cases.
-pub fn replay(text: &[u8], at: usize) {
+pub fn replay(stdout: Stdout, text: &[u8], at: usize) -> io::Result<()> {
     let cases = number(text, at);
     let mut from = cases.at;
-    let mut left = cases.value;
-    while left > 0 {
-        from = replay_one(text, from);
-        left -= 1;
+    for _ in 0..cases.value {
+        from = replay_one(stdout, text, from)?;
     }
+    Ok(())
 }
 
-fn replay_one(text: &[u8], at: usize) -> usize {
+fn replay_one(stdout: Stdout, text: &[u8], at: usize) -> io::Result<usize> {
     let mut words = dirty();
     let size = number(text, at);
     let order = number(text, size.at);
     let lent = number(text, order.at);
     let count = at_most(lent.value, 8192);
     replay_with(
+        stdout,
         text,
         lent.at,
         size.value as usize,
@@ -65,35 +67,46 @@ fn replay_one(text: &[u8], at: usize) -> usize {
 }
 
 fn replay_with(
+    stdout: Stdout,
     text: &[u8],
     at: usize,
     block_size: usize,
     low_first: bool,
     words: &mut [u64],
-) -> usize {
-    let recorded = record(text, at, block_size, low_first, words);
+) -> io::Result<usize> {
+    let recorded = record(stdout, text, at, block_size, low_first, words)?;
     let sampler = recorded.sampler;
     let head = sampler.head;
-    search_all(text, recorded.at, head, words)
+    search_all(stdout, text, recorded.at, head, words)
 }
 
 // The number of searches, then the searches.
-fn search_all(text: &[u8], at: usize, sampler: Head, words: &[u64]) -> usize {
+fn search_all(
+    stdout: Stdout,
+    text: &[u8],
+    at: usize,
+    sampler: Head,
+    words: &[u64],
+) -> io::Result<usize> {
     let searches = number(text, at);
     let mut from = searches.at;
-    let mut left = searches.value;
-    while left > 0 {
-        from = search_one(text, from, sampler, words);
-        left -= 1;
+    for _ in 0..searches.value {
+        from = search_one(stdout, text, from, sampler, words)?;
     }
-    from
+    Ok(from)
 }
 
-fn search_one(text: &[u8], at: usize, sampler: Head, words: &[u64]) -> usize {
+fn search_one(
+    stdout: Stdout,
+    text: &[u8],
+    at: usize,
+    sampler: Head,
+    words: &[u64],
+) -> io::Result<usize> {
     let search = read_search(text, at, sampler);
-    lend(search, words, search.store);
-    lend(search, words, 0);
-    search.at
+    lend(stdout, search, words, search.store)?;
+    lend(stdout, search, words, 0)?;
+    Ok(search.at)
 }
 
 fn read_search(text: &[u8], at: usize, returned: Head) -> Search {
@@ -151,7 +164,7 @@ fn given_sampler(text: &[u8], at: usize, returned: Head) -> Given {
 }
 
 // Lends buffers of as many entries as the search says, and a store of so many.
-fn lend(search: Search, words: &[u64], entries: u64) {
+fn lend(stdout: Stdout, search: Search, words: &[u64], entries: u64) -> io::Result<()> {
     let mut bins = buffer();
     let mut order = buffer();
     let mut counts = store();
@@ -159,15 +172,23 @@ fn lend(search: Search, words: &[u64], entries: u64) {
     let b = at_most(search.order, 1024);
     let c = at_most(entries, 65536);
     answer(
+        stdout,
         search,
         words,
         &mut counts[..c],
         &mut bins[..a],
         &mut order[..b],
-    );
+    )
 }
 
-fn answer(search: Search, words: &[u64], store: &mut [u32], bins: &mut [u32], order: &mut [u32]) {
+fn answer(
+    stdout: Stdout,
+    search: Search,
+    words: &[u64],
+    store: &mut [u32],
+    bins: &mut [u32],
+    order: &mut [u32],
+) -> io::Result<()> {
     let searched = bottomup(
         search.sampler,
         words,
@@ -178,16 +199,16 @@ fn answer(search: Search, words: &[u64], store: &mut [u32], bins: &mut [u32], or
         bins,
         order,
     );
-    print_answer(searched, search.k, bins, order);
+    print_answer(stdout, searched, search.k, bins, order)?;
     let kept = kept_entries(
         searched.refusal,
         search.sampler.block_size,
         search.k,
         store.len(),
     );
-    print(changed(store, kept) as u64);
-    print(weighed(store, kept));
-    end_line();
+    print(stdout, changed(store, kept) as u64)?;
+    print(stdout, weighed(store, kept))?;
+    end_line(stdout)
 }
 
 fn buffer() -> [u32; 1024]
@@ -215,28 +236,34 @@ fn kept_entries(refusal: u32, block_size: usize, k: usize, entries: usize) -> us
     needed
 }
 
-fn print_answer(searched: Searched, k: usize, bins: &[u32], order: &[u32]) {
-    print_searched(searched);
+fn print_answer(
+    stdout: Stdout,
+    searched: Searched,
+    k: usize,
+    bins: &[u32],
+    order: &[u32],
+) -> io::Result<()> {
+    print_searched(stdout, searched)?;
     let shown = shown_entries(searched.refusal, k);
-    print_first(bins, shown);
-    end_line();
-    print_first(order, shown);
-    end_line();
-    print(changed(bins, shown) as u64);
-    print(changed(order, shown) as u64);
+    print_first(stdout, bins, shown)?;
+    end_line(stdout)?;
+    print_first(stdout, order, shown)?;
+    end_line(stdout)?;
+    print(stdout, changed(bins, shown) as u64)?;
+    print(stdout, changed(order, shown) as u64)
 }
 
-fn print_searched(searched: Searched) {
+fn print_searched(stdout: Stdout, searched: Searched) -> io::Result<()> {
     let finding = searched.finding;
     let bits = finding.bits;
-    print(searched.refusal as u64);
-    print(finding.block_size as u64);
-    print(finding.width as u64);
-    print_first(&bits, 20);
-    print(finding.division as u64);
-    print_double(finding.z);
-    print(finding.low_first as u64);
-    end_line();
+    print(stdout, searched.refusal as u64)?;
+    print(stdout, finding.block_size as u64)?;
+    print(stdout, finding.width as u64)?;
+    print_first(stdout, &bits, 20)?;
+    print(stdout, finding.division as u64)?;
+    print_double(stdout, finding.z)?;
+    print(stdout, finding.low_first as u64)?;
+    end_line(stdout)
 }
 
 // How many entries of a buffer a search fills: none where it is refused.

@@ -1,13 +1,18 @@
 // Makes the sweeps of stored cases and prints what they answer; `stdin` lists the cases and says how their answers were made.
+#![tactic(auto)]
+
 mod recordings;
 mod sweeps;
 
 ghost use Rattle.std.specs.Prelude.{◌≡◌, length};
 
-fn main() {
+use cases::input::read_full;
+use std::io;
+
+fn main(rt: HostRuntime) -> io::Result<()> {
     let mut space = room();
-    let length = io::read_full(0, &mut space);
-    sweeps::answer_all(&space[..length]);
+    let length = read_full(rt.stdin(), &mut space)?;
+    sweeps::answer_all(rt.stdout(), &space[..length])
 }
 
 // For the whole of standard input.

@@ -7,9 +7,12 @@ ghost use Rattle.std.specs.Prelude.{◌≡◌, ◌≤◌, length};
 
 use crate::recordings::record;
 use cases::entries::{changed, print_first};
+use cases::input::large_buffer;
 use cases::patterns::print_double;
 use cases::printing::{end_line, print};
 use cases::reading::{at_most, number};
+use std::io;
+use std::io::Stdout;
 use sweeping::pair::Tested;
 use sweeping::sweep::sweep;
 use sweeping::verdict::Verdict;
@@ -31,21 +34,20 @@ struct Case {
 }
 
 // The number of cases, then the cases.
-pub fn answer_all(text: &[u8]) {
+pub fn answer_all(stdout: Stdout, text: &[u8]) -> io::Result<()> {
     let cases = number(text, 0);
     let mut from = cases.at;
-    let mut left = cases.value;
-    while left > 0 {
-        from = answer_one(text, from);
-        left -= 1;
+    for _ in 0..cases.value {
+        from = answer_one(stdout, text, from)?;
     }
+    Ok(())
 }
 
-fn answer_one(text: &[u8], at: usize) -> usize {
-    let mut raw = io::large_buffer();
+fn answer_one(stdout: Stdout, text: &[u8], at: usize) -> io::Result<usize> {
+    let mut raw = large_buffer();
     let case = read_case(text, at);
     let count = at_most(case.length, 65536);
-    with_recording(text, case, &mut raw[..count])
+    with_recording(stdout, text, case, &mut raw[..count])
 }
 
 fn read_case(text: &[u8], at: usize) -> Case {
@@ -75,14 +77,14 @@ fn read_case(text: &[u8], at: usize) -> Case {
 }
 
 // Fills the recording, and answers.
-fn with_recording(text: &[u8], case: Case, raw: &mut [u8]) -> usize {
+fn with_recording(stdout: Stdout, text: &[u8], case: Case, raw: &mut [u8]) -> io::Result<usize> {
     let after = record(text, case.at, raw);
-    lend(case, raw);
-    after
+    lend(stdout, case, raw)?;
+    Ok(after)
 }
 
 // Lends as many entries as the case says.
-fn lend(case: Case, raw: &[u8]) {
+fn lend(stdout: Stdout, case: Case, raw: &[u8]) -> io::Result<()> {
     let mut words = wide_buffer();
     let mut counts = store();
     let mut bins = buffer();
@@ -96,6 +98,7 @@ fn lend(case: Case, raw: &[u8]) {
     let e = at_most(case.scratch, 512);
     let f = at_most(case.entries, 8192);
     answer(
+        stdout,
         case,
         raw,
         &mut words[..a],
@@ -104,10 +107,11 @@ fn lend(case: Case, raw: &[u8]) {
         &mut order[..d],
         &mut scratch[..e],
         &mut entries[..f],
-    );
+    )
 }
 
 fn answer(
+    stdout: Stdout,
     case: Case,
     raw: &[u8],
     words: &mut [u64],
@@ -116,7 +120,7 @@ fn answer(
     order: &mut [u32],
     scratch: &mut [u32],
     entries: &mut [u64],
-) {
+) -> io::Result<()> {
     let swept = sweep(
         raw,
         case.block_size,
@@ -130,41 +134,51 @@ fn answer(
         entries,
     );
     let verdict = swept.verdict;
-    print(swept.refusal as u64);
-    print_verdict(verdict);
-    print(swept.tested as u64);
-    end_line();
-    print_tested(swept.best);
-    print_tested(swept.last);
-    print_changed(swept.refusal, words, store, bins, order, scratch, entries);
+    print(stdout, swept.refusal as u64)?;
+    print_verdict(stdout, verdict)?;
+    print(stdout, swept.tested as u64)?;
+    end_line(stdout)?;
+    print_tested(stdout, swept.best)?;
+    print_tested(stdout, swept.last)?;
+    print_changed(
+        stdout,
+        swept.refusal,
+        words,
+        store,
+        bins,
+        order,
+        scratch,
+        entries,
+    )
 }
 
-fn print_verdict(verdict: Verdict) {
+fn print_verdict(stdout: Stdout, verdict: Verdict) -> io::Result<()> {
     match verdict {
-        Verdict::Undecided => print(0),
-        Verdict::Rejected => print(1),
-        Verdict::NotRejected => print(2),
+        Verdict::Undecided => print(stdout, 0),
+        Verdict::Rejected => print(stdout, 1),
+        Verdict::NotRejected => print(stdout, 2),
     }
 }
 
-fn print_tested(tested: Tested) {
+fn print_tested(stdout: Stdout, tested: Tested) -> io::Result<()> {
     let finding = tested.finding;
     let bits = finding.bits;
-    print(finding.block_size as u64);
-    print(finding.width as u64);
-    print(finding.division as u64);
-    print_double(finding.z);
-    print_first(&bits, 20);
-    print(finding.low_first as u64);
-    print(tested.blocks as u64);
-    print(tested.positive as u64);
-    print(tested.low);
-    print(tested.high);
-    end_line();
+    print(stdout, finding.block_size as u64)?;
+    print(stdout, finding.width as u64)?;
+    print(stdout, finding.division as u64)?;
+    print_double(stdout, finding.z)?;
+    print_first(stdout, &bits, 20)?;
+    print(stdout, finding.low_first as u64)?;
+    print(stdout, tested.blocks as u64)?;
+    print(stdout, tested.positive as u64)?;
+    print(stdout, tested.low)?;
+    print(stdout, tested.high)?;
+    end_line(stdout)
 }
 
 // How many entries of each buffer are no longer as lent; 0 where there is no refusal, since they are free then.
 fn print_changed(
+    stdout: Stdout,
     refusal: u32,
     words: &[u64],
     store: &[u32],
@@ -172,19 +186,18 @@ fn print_changed(
     order: &[u32],
     scratch: &[u32],
     entries: &[u64],
-) {
+) -> io::Result<()> {
     if refusal == 0 {
-        print(0);
-        end_line();
-        return;
+        print(stdout, 0)?;
+        return end_line(stdout);
     }
-    print(changed_wide(words) as u64);
-    print(changed(store, 0) as u64);
-    print(changed(bins, 0) as u64);
-    print(changed(order, 0) as u64);
-    print(changed(scratch, 0) as u64);
-    print(changed_wide(entries) as u64);
-    end_line();
+    print(stdout, changed_wide(words) as u64)?;
+    print(stdout, changed(store, 0) as u64)?;
+    print(stdout, changed(bins, 0) as u64)?;
+    print(stdout, changed(order, 0) as u64)?;
+    print(stdout, changed(scratch, 0) as u64)?;
+    print(stdout, changed_wide(entries) as u64)?;
+    end_line(stdout)
 }
 
 // How many entries are no longer as lent.

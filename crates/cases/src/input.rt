@@ -1,0 +1,28 @@
+// Standard input, and room for much of it.
+ghost use Rattle.std.specs.Prelude.{◌≡◌, ◌≤◌, length, IfOk};
+
+use std::io;
+use std::io::{Read, Stdin};
+
+// Reads until the space is full or the input ends, and answers how many bytes it put at the start of the space.
+pub fn read_full(stdin: Stdin, space: &mut [u8]) -> io::Result<usize>
+    ensures { IfOk result (λ read. read ≤ length space.new) }
+{
+    let mut stdin = stdin;
+    let mut done = 0;
+    while done < space.len() {
+        let read = stdin.read(&mut space[done..])?;
+        if read == 0 {
+            break;
+        }
+        done += read;
+    }
+    Ok(done)
+}
+
+// 65,536 zeros, for the bytes of a recording.
+pub fn large_buffer() -> [u8; 65536]
+    ensures { 65536 ≡ length result }
+{
+    [0; 65536]
+}
