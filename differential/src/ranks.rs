@@ -7,7 +7,7 @@ use crate::ours;
 use crate::recordings::store_size;
 use answers::{choose, compute_index, Draws};
 
-/// Block sizes and the widths of which every subset is ranked; the coefficients of 3 of 520 bits go past the last row of the table, 512.
+/// Block sizes and the widths of which every subset is ranked; the coefficients of 3 of 520 bits go past row 512, the last of the table of small ones (`subsets::pascal`).
 const WHOLE: [(usize, usize, usize); 10] =
     [(8, 1, 8), (16, 1, 16), (24, 1, 20), (32, 1, 6), (64, 1, 4), (128, 1, 3), (256, 3, 3), (512, 3, 3), (520, 3, 3), (4096, 1, 2)];
 
