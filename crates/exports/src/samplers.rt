@@ -29,7 +29,8 @@ pub fn sampler_unread(numbers: &[u64]) -> u32
     if numbers.len() < 8 {
         return 25;
     }
-    if numbers[3] > 1 {
+    let other = numbers[3] > 1;
+    if other {
         return 27;
     }
     0

@@ -7,10 +7,10 @@ pub returns-then-numbers-lt8 : goal.returns-then-numbers-lt8
 unfolding sampler_unread
 returns-then-numbers-lt8 c = simp (lt-leb _ _ c.if-numbers-lt8.true)
 
-pub returns-then-numbers-gt1 : goal.returns-then-numbers-gt1
+pub returns-then-other : goal.returns-then-other
 unfolding sampler_unread
-returns-then-numbers-gt1 c = simp (le-leb _ _ c.if-numbers-lt8.false, lt-leb _ _ c.if-numbers-gt1.true)
+returns-then-other c = simp (le-leb _ _ c.if-numbers-lt8.false, lt-leb _ _ c.if-other.true)
 
 pub returns : goal.returns
 unfolding sampler_unread
-returns c = simp (le-leb _ _ c.if-numbers-lt8.false, le-leb _ _ c.if-numbers-gt1.false)
+returns c = simp (le-leb _ _ c.if-numbers-lt8.false, le-leb _ _ c.if-other.false)
