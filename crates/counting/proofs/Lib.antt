@@ -1,5 +1,6 @@
 pub mod Lanes
 pub mod Accepted
+pub mod Reasons
 pub mod Reversing
 pub mod Counts
 pub mod Marks

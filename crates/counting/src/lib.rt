@@ -3,6 +3,7 @@
 
 pub mod block;
 mod chunk;
+pub mod refusal;
 pub mod rows;
 pub mod stretch;
 mod tally;
