@@ -9,8 +9,7 @@ use Rattle.counting.specs.Block.{valid_size}
 use Rattle.counting.proofs.Accepted.{both}
 use Rattle.subsets.specs.Choose.{choose, choose_up_to}
 use Rattle.subsets.specs.Bits.{valid_width, bits_refusal}
-use Rattle.subsets.specs.Rank.{rank_of, rank_refusal, ranked_of}
-use Rattle.subsets.specs.declared.rank.Ranked.{Ranked}
+use Rattle.subsets.specs.Rank.{rank_of, rank_refusal, Ranked, ranked_of}
 use Rattle.subsets.proofs.Choosing.{told_above, told_within}
 
 pub width_bounds : (k : ℕ) → valid_width k ≡ true → (1 ≤ k) × (k ≤ 20)

@@ -1,10 +1,11 @@
 -- The rank of a subset: the number of k-subsets before it.
-use Rattle.std.specs.Prelude.{◌≡◌, ℕ, suc, ◌+◌, ◌-◌, ◌^◌, ◌≤◌, ◌<◌, cond, List, [], ◌∷◌, T, leb, eqb, length}
+use Rattle.std.specs.Prelude.{◌≡◌, ℕ, suc, ◌+◌, ◌-◌, ◌^◌, ◌≤◌, ◌<◌, cond, List, [], ◌∷◌, T, leb, eqb, length, Result, Ok, Err}
 use Rattle.counting.specs.Block.{valid_size}
+use Rattle.counting.specs.Refusal.{number_of}
+use Rattle.counting.specs.declared.refusal.Refusal.{Refusal}
 use Rattle.subsets.specs.Subsets.{Subset, lex_lt, subsets, numbers_from, Next, Last}
 use Rattle.subsets.specs.Choose.{choose}
 use Rattle.subsets.specs.Bits.{valid_width, bits_refusal}
-use Rattle.subsets.specs.declared.rank.Ranked.{Ranked}
 
 -- how many of those listed stand before s
 abbrev pub count_before : List ℕ → List (List ℕ) → ℕ
@@ -49,6 +50,16 @@ rank_refusal B k s =
     3)
     2)
     1
+
+-- an answer of `compute_index` as two numbers: the rank beside 0, or 0 beside a refusal
+pub record Ranked : Type 0 where
+  pub refusal : ℕ
+  pub rank : ℕ
+
+-- the two numbers of an answer
+abbrev pub as_ranked : Result ℕ Refusal → Ranked
+as_ranked (Ok rank) = record { refusal = 0; rank = rank }
+as_ranked (Err r) = record { refusal = number_of r; rank = 0 }
 
 -- what `compute_index` returns: the rank beside 0, or 0 beside a refusal
 unfoldable pub ranked_of : ℕ → ℕ → List ℕ → Ranked

@@ -1,6 +1,9 @@
 // The tests of a width and of a list of bits.
 ghost use Rattle.std.specs.Prelude.{◌≡◌};
+ghost use Rattle.counting.specs.Refusal.{refusal_of};
 ghost use Rattle.subsets.specs.Bits.{valid_width, increasing, within, bits_refusal};
+
+use counting::refusal::Refusal;
 
 // Whether k is 1 to 20.
 pub fn valid_width(k: usize) -> bool
@@ -43,15 +46,15 @@ pub fn within(bits: &[u32], block_size: usize) -> bool
     true
 }
 
-// 9 where the bits do not increase, else 10 where one is not in the block, else 0.
-pub fn bits_refusal(bits: &[u32], block_size: usize) -> u32
-    ensures { result ≡ bits_refusal block_size bits.now }
+// BitsNotRising where the bits do not increase, else BitOutsideBlock where one is not in the block.
+pub fn bits_refusal(bits: &[u32], block_size: usize) -> Result<(), Refusal>
+    ensures { refusal_of result ≡ bits_refusal block_size bits.now }
 {
     if !increasing(bits) {
-        return 9;
+        return Err(Refusal::BitsNotRising);
     }
     if !within(bits, block_size) {
-        return 10;
+        return Err(Refusal::BitOutsideBlock);
     }
-    0
+    Ok(())
 }

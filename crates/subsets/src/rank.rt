@@ -2,17 +2,12 @@
 ghost use Rattle.std.specs.Prelude.{◌≡◌, ◌^◌, ◌≤◌, ◌<◌, length, take};
 ghost use Rattle.subsets.specs.Subsets.{Subset};
 ghost use Rattle.subsets.specs.Choose.{choose};
-ghost use Rattle.subsets.specs.Rank.{rank_of, ranked_of};
+ghost use Rattle.subsets.specs.Rank.{rank_of, as_ranked, ranked_of};
 
 use crate::bits::{bits_refusal, valid_width};
 use crate::choose::choose_up_to;
 use counting::block::valid_block_size;
-
-#[derive(Clone, Copy)]
-pub struct Ranked {
-    pub refusal: u32,
-    pub rank: usize,
-}
+use counting::refusal::Refusal;
 
 // The number of all subsets, less one, less those after this one: for each chosen bit the ways to pick that many bits, itself and those after it, from the
 // positions above it.
@@ -30,41 +25,23 @@ pub fn rank_of(block_size: usize, bits: &[u32]) -> usize
 }
 
 // The rank of the subset in the first k entries of bits; the others are not read.
-pub fn compute_index(block_size: usize, k: usize, bits: [u32; 20]) -> Ranked
-    ensures { result ≡ ranked_of block_size k (take k bits) }
+pub fn compute_index(block_size: usize, k: usize, bits: [u32; 20]) -> Result<usize, Refusal>
+    ensures { as_ranked result ≡ ranked_of block_size k (take k bits) }
 {
     if !valid_block_size(block_size) {
-        return Ranked {
-            refusal: 1,
-            rank: 0,
-        };
+        return Err(Refusal::BlockSize);
     }
     if !valid_width(k) {
-        return Ranked {
-            refusal: 2,
-            rank: 0,
-        };
+        return Err(Refusal::Width);
     }
     if k > block_size {
-        return Ranked {
-            refusal: 3,
-            rank: 0,
-        };
+        return Err(Refusal::WidthAboveBlock);
     }
     let chosen = &bits[..k];
-    let refusal = bits_refusal(chosen, block_size);
-    if refusal != 0 {
-        return Ranked { refusal, rank: 0 };
-    }
+    bits_refusal(chosen, block_size)?;
     let many = choose_up_to(block_size, k) > 4294967296;
     if many {
-        return Ranked {
-            refusal: 12,
-            rank: 0,
-        };
+        return Err(Refusal::TooMany);
     }
-    Ranked {
-        refusal: 0,
-        rank: rank_of(block_size, chosen),
-    }
+    Ok(rank_of(block_size, chosen))
 }

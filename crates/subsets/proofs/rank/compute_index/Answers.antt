@@ -9,6 +9,8 @@ use Rattle.subsets.specs.Bits.{valid_width}
 use Rattle.subsets.proofs.Choosing.{told_within}
 use Rattle.subsets.proofs.Testing.{accepted}
 use Rattle.counting.proofs.Accepted.{valid_facts}
+use Rattle.counting.proofs.Reasons.{some_number}
+use Rattle.std.proofs.lemmas.Result.{err_from_is_err_and}
 use Rattle.subsets.proofs.Refusing.{width_bounds, bad_size, bad_width, too_wide, bad_bits, too_many, taken}
 use Rattle.subsets.proofs.rank.compute_index.Goals.{Else-k-block_size, Else-not-valid_block_size, Else-not-valid_width}
 use Rattle.subsets.proofs.rank.compute_index.Goals as goal
@@ -47,11 +49,12 @@ slice_bounds-bits-end c =
 pub slice_bounds-chosen-end : goal.slice_bounds-chosen-end
 slice_bounds-chosen-end c = sym (sized (goal.at.slice_bounds-chosen-end c).Else-k-block_size)
 
-pub returns-then-refusal-ne0 : goal.returns-then-refusal-ne0
-returns-then-refusal-ne0 c =
+pub returns-in_err-bits_refusal : goal.returns-in_err-bits_refusal
+returns-in_err-bits_refusal c =
     let a = c.args in
-    let r = c.bits_refusal-refusal in
-    bad_bits a.block_size a.k (take a.k a.bits) (size_ok (goal.at.returns-then-refusal-ne0 c).Else-not-valid_block_size) (width_ok (goal.at.returns-then-refusal-ne0 c).Else-not-valid_width) c.if-k-block_size.false r.result r.ensures c.if-refusal-ne0.true
+    let p = err_from_is_err_and c.from_residual.result c.from_residual.ensures.1 in
+    rw (p.1, p.2)
+    (bad_bits a.block_size a.k (take a.k a.bits) (size_ok (goal.at.returns-in_err-bits_refusal c).Else-not-valid_block_size) (width_ok (goal.at.returns-in_err-bits_refusal c).Else-not-valid_width) c.if-k-block_size.false _ c.in_err-bits_refusal.ensures (some_number _))
 
 pub choose_up_to-many-requires : goal.choose_up_to-many-requires
 choose_up_to-many-requires c =
@@ -60,27 +63,24 @@ choose_up_to-many-requires c =
 pub returns-then-many : goal.returns-then-many
 returns-then-many c =
     let a = c.args in
-    let r = c.bits_refusal-refusal in
     let n = c.choose_up_to-many in
     let more : 2 ^ 32 < n.result = omega arith in
     too_many a.block_size a.k (take a.k a.bits) (size_ok (goal.at.returns-then-many c).Else-not-valid_block_size) (width_ok (goal.at.returns-then-many c).Else-not-valid_width) c.if-k-block_size.false
-    r.result n.result r.ensures c.if-refusal-ne0.false n.ensures more
+    0 n.result c.in_ok-bits_refusal.ensures refl n.ensures more
 
 pub rank_of-requires : goal.rank_of-requires
 rank_of-requires c =
     let a = c.args in
-    let r = c.bits_refusal-refusal in
     let n = c.choose_up_to-many in
     let few : n.result ≤ 2 ^ 32 = omega arith in (
       omega (arith, valid_facts a.block_size (size_ok (goal.at.rank_of-requires c).Else-not-valid_block_size)),
       rw (sized (goal.at.rank_of-requires c).Else-k-block_size) (told_within a.block_size a.k n.result n.ensures few),
-      accepted a.block_size (length (take a.k a.bits)) (take a.k a.bits) refl (sym r.ensures ∙ c.if-refusal-ne0.false),
+      accepted a.block_size (length (take a.k a.bits)) (take a.k a.bits) refl (sym c.in_ok-bits_refusal.ensures),
     )
 
 pub returns : goal.returns
 returns c =
     let a = c.args in
-    let r = c.bits_refusal-refusal in
     let n = c.choose_up_to-many in
     taken a.block_size a.k (take a.k a.bits) (size_ok (goal.at.returns c).Else-not-valid_block_size) (width_ok (goal.at.returns c).Else-not-valid_width) c.if-k-block_size.false
-    r.result n.result c.rank_of.result r.ensures c.if-refusal-ne0.false n.ensures c.if-many.false c.rank_of.ensures
+    0 n.result c.rank_of.result c.in_ok-bits_refusal.ensures refl n.ensures c.if-many.false c.rank_of.ensures
