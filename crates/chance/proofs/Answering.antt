@@ -6,11 +6,14 @@ use native.Mathlib.Omega.{arith}
 use lib.Dec.{leb, ltb}
 use lib.ListN.{length}
 use borrow.Author.Tests.{leb-true, ltb-true}
+use Rattle.std.specs.Prelude.{Result, Ok, Err}
+use Rattle.counting.specs.declared.refusal.Refusal.{Refusal}
+use Rattle.counting.proofs.Reasons.{some_number}
 use Rattle.subsets.specs.Bits.{valid_width}
 use Rattle.subsets.proofs.Refusing.{width_bounds}
 use Rattle.counting.proofs.Accepted.{passed}
-use Rattle.chance.specs.Bracket.{low_of, high_of, bracket_refusal, answer_of, scratch_of, bracket_of, bracket_scratch, Encloses}
-use Rattle.chance.specs.declared.bracket.Bracketed.{Bracketed}
+use Rattle.chance.specs.Bracket.{low_of, high_of, bracket_refusal, Bracketed, bracketed_of, answer_of, scratch_of, bracket_of, bracket_scratch, Encloses}
+use Rattle.chance.specs.declared.bracket.Ends.{Ends}
 use Rattle.chance.proofs.Bracketing.{brackets}
 use Rattle.chance.proofs.Filling.{Filling}
 
@@ -80,6 +83,14 @@ refusal_is (suc r) n c k d = refl
 pub taken_is : (n c k d room : ℕ) → bracket_refusal n c k d room ≡ 0 → bracket_of n c k d room ≡ answer 0 (low_of n c k d) (high_of n c k d)
 unfolding bracket_of answer_of
 taken_is n c k d room e = ap (λ (x : ℕ). answer_of x n c k d) e
+
+-- .. so that it is both ends, with no refusal
+pub ends_are : (n c k d room : ℕ) (x : Result Ends Refusal) → bracketed_of x ≡ bracket_of n c k d room → bracket_refusal n c k d room ≡ 0
+    → x ≡ Ok (record { low = low_of n c k d; high = high_of n c k d })
+ends_are n c k d room (Ok ends) is none =
+    ap (λ (b : Bracketed). Ok (record { low = b.low; high = b.high })) (is ∙ taken_is n c k d room none)
+ends_are n c k d room (Err r) is none =
+    absurd (some_number r (ap (λ (b : Bracketed). b.refusal) (is ∙ taken_is n c k d room none)))
 
 pub encloses : Encloses
 unfolding bracket_of

@@ -1,9 +1,11 @@
 -- The two ends of a chance, that they enclose it, what the call refuses, its answer and the scratch after it.
-use Rattle.std.specs.Prelude.{◌≡◌, ℕ, zero, suc, ◌+◌, ◌*◌, ◌/◌, ◌^◌, ◌≤◌, ◌<◌, cond, List, ◌++◌, leb, ltb, length, drop}
+use Rattle.std.specs.Prelude.{◌≡◌, ℕ, zero, suc, ◌+◌, ◌*◌, ◌/◌, ◌^◌, ◌≤◌, ◌<◌, cond, List, ◌++◌, leb, ltb, length, drop, Result, Ok, Err}
+use Rattle.counting.specs.Refusal.{number_of}
+use Rattle.counting.specs.declared.refusal.Refusal.{Refusal}
 use Rattle.subsets.specs.Bits.{valid_width}
 use Rattle.chance.specs.Chance.{sum_from, binomial_sum}
 use Rattle.chance.specs.Entries.{entry, entries_after}
-use Rattle.chance.specs.declared.bracket.Bracketed.{Bracketed}
+use Rattle.chance.specs.declared.bracket.Ends.{Ends}
 
 -- the lower end, L: the sum of entries c to n
 unfoldable pub low_of : ℕ → ℕ → ℕ → ℕ → ℕ
@@ -39,6 +41,17 @@ bracket_refusal n c k d room =
     2)
     19)
     19
+
+-- an answer of `bracket` as three numbers: both ends beside 0, or 0 and 0 beside a refusal
+pub record Bracketed : Type 0 where
+  pub refusal : ℕ
+  pub low : ℕ
+  pub high : ℕ
+
+-- the three numbers of an answer
+abbrev pub bracketed_of : Result Ends Refusal → Bracketed
+bracketed_of (Ok ends) = record { refusal = 0; low = ends.low; high = ends.high }
+bracketed_of (Err r) = record { refusal = number_of r; low = 0; high = 0 }
 
 -- the answer beside the refusal r: both ends, or 0 and 0
 unfoldable pub answer_of : ℕ → ℕ → ℕ → ℕ → ℕ → Bracketed

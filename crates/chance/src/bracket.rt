@@ -1,68 +1,59 @@
 // The chance of at least c positives among n blocks, each positive with probability d / 2^k, bracketed in units of 2^-40.
 ghost use Rattle.std.specs.Prelude.{◌≡◌, ℕ, ◌^◌, ◌≤◌, ◌<◌, length, get_or};
+ghost use Rattle.counting.specs.Refusal.{refusal_of};
 ghost use Rattle.chance.specs.Chance.{sum_from};
 ghost use Rattle.chance.specs.Entries.{entry};
-ghost use Rattle.chance.specs.Bracket.{roundings, bracket_refusal, bracket_of, bracket_scratch};
+ghost use Rattle.chance.specs.Bracket.{roundings, bracket_refusal, bracketed_of, bracket_of, bracket_scratch};
 
 use crate::entries::entries_after;
 use counting::block::bin_count;
+use counting::refusal::Refusal;
 use subsets::bits::valid_width;
 
-#[derive(Clone, Copy)]
-pub struct Bracketed {
-    pub refusal: u32,
+// Both ends of a chance times 2^40.
+#[derive(Clone, Copy, Debug, PartialEq, Eq)]
+pub struct Ends {
     pub low: u64,
     pub high: u64,
 }
 
-// Both ends of the chance times 2^40. Refusals 19, 2, 14, 7, each leaving the scratch as lent. Else it has the n + 1 last entries at its start and the rest
-// as lent.
-pub fn bracket(n: usize, c: usize, k: usize, d: usize, scratch: &mut [u64]) -> Bracketed
-    ensures value { result ≡ bracket_of n c k d (length scratch.old) }
+// Both ends of the chance times 2^40. Refused as Blocks, Width, Division, Buffer, each leaving the scratch as lent. Else it has the n + 1 last entries at its
+// start and the rest as lent.
+pub fn bracket(n: usize, c: usize, k: usize, d: usize, scratch: &mut [u64]) -> Result<Ends, Refusal>
+    ensures value { bracketed_of result ≡ bracket_of n c k d (length scratch.old) }
     ensures scratch_after { scratch.new ≡ bracket_scratch n c k d scratch.old }
 {
-    let refusal = bracket_refusal(n, c, k, d, scratch.len());
-    if refusal != 0 {
-        return Bracketed {
-            refusal,
-            low: 0,
-            high: 0,
-        };
-    }
+    bracket_refusal(n, c, k, d, scratch.len())?;
     entries_after(n, k, d as u64, scratch);
     let low = sum_from(c, n, scratch);
     let high = low + roundings(n);
-    Bracketed {
-        refusal: 0,
-        low,
-        high,
-    }
+    Ok(Ends { low, high })
 }
 
-// 19, 2, 14, 7, or 0.
-fn bracket_refusal(n: usize, c: usize, k: usize, d: usize, room: usize) -> u32
-    ensures { result ≡ bracket_refusal n c k d room }
+// Blocks, Width, Division or Buffer, the first that applies.
+fn bracket_refusal(n: usize, c: usize, k: usize, d: usize, room: usize) -> Result<(), Refusal>
+    ensures { refusal_of result ≡ bracket_refusal n c k d room }
 {
     let long = n > 4096;
     if long {
-        return 19;
+        return Err(Refusal::Blocks);
     }
     if c > n {
-        return 19;
+        return Err(Refusal::Blocks);
     }
     if !valid_width(k) {
-        return 2;
+        return Err(Refusal::Width);
     }
     if d < 1 {
-        return 14;
+        return Err(Refusal::Division);
     }
     if d >= bin_count(k) {
-        return 14;
+        return Err(Refusal::Division);
     }
     if room <= n {
-        return 7;
+        return Err(Refusal::Buffer);
     }
-    0
+    Ok(())
 }
 
 // The sum of entries c to n.
