@@ -1,3 +1,4 @@
+pub mod Refused
 pub mod Usable
 pub mod Filling
 pub mod Cutting

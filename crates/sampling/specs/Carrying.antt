@@ -1,15 +1,17 @@
 -- The carry-over: a sampler of the earlier rule, in the middle of a recording, becomes one of today's.
-use Rattle.std.specs.Prelude.{ℕ, zero, suc, ◌+◌, ◌*◌, ◌/◌, ◌%◌, ◌^◌, ◌≤◌, ◌<◌, Bool, cond, List, [], ◌∷◌, eqb, length, get_or, set, replicate}
+use Rattle.std.specs.Prelude.{ℕ, zero, suc, ◌+◌, ◌*◌, ◌/◌, ◌%◌, ◌^◌, ◌≤◌, ◌<◌, Bool, cond, List, [], ◌∷◌, Result, Ok, Err, eqb, length, get_or, set, replicate}
 use Rattle.std.specs.Int.Bits.{bit_xor}
 use Rattle.counting.specs.Block.{bit_at, place_in, bin_of}
 use Rattle.counting.specs.Buffer.{put}
 use Rattle.counting.specs.Recording.{block_bytes, stride}
+use Rattle.counting.specs.Refusal.{number_of}
 use Rattle.counting.specs.Sample.{list_of}
 use Rattle.counting.specs.Words.{stored_bit}
+use Rattle.counting.specs.declared.refusal.Refusal.{Refusal}
 use Rattle.sampling.specs.Earlier.{earlier_refusal}
 use Rattle.sampling.specs.Sampler.{no_sampler}
-use Rattle.sampling.specs.declared.carrying.Carried.{Carried}
 use Rattle.sampling.specs.declared.carrying.Earlier.{Earlier}
+use Rattle.sampling.specs.declared.sampler.Sampler.{Sampler}
 
 -- bit k of word i cleared
 unfoldable pub clear_bit : List ℕ → ℕ → ℕ → List ℕ
@@ -39,6 +41,16 @@ left_of s = s.taken % block_bytes s.block_size
 -- .. and which, as they stand in the words
 unfoldable pub left_bytes : Earlier → List ℕ → List ℕ
 left_bytes s ws = list_of (left_of s) (stored_byte s.low_first (stride s.block_size (length ws)) ws (whole_of s))
+
+-- what the carry-over answers: a refusal, 0 where there is none, and the sampler that goes on
+pub record Carried : Type 0 where
+  pub refusal : ℕ
+  pub sampler : Sampler
+
+-- .. as code answers it
+abbrev pub as_carried : Result Sampler Refusal → Carried
+as_carried (Ok s) = record { refusal = 0; sampler = s }
+as_carried (Err r) = record { refusal = number_of r; sampler = no_sampler }
 
 -- the carry-over's answer: its unfinished bytes are board 0's; 4 as the earlier rule has it, and every field 0
 unfoldable pub carried_of : Earlier → List ℕ → Carried

@@ -1,15 +1,16 @@
 -- What feed answers, and the words after it.
-use Rattle.std.specs.Prelude.{◌≡◌, ℕ, ◌+◌, ◌-◌, ◌*◌, ◌/◌, ◌%◌, ◌≤◌, ◌<◌, max, cond, List, ◌++◌, leb, eqb, length, get_or, set, replicate}
+use Rattle.std.specs.Prelude.{◌≡◌, ℕ, ◌+◌, ◌-◌, ◌*◌, ◌/◌, ◌%◌, ◌≤◌, ◌<◌, max, cond, List, ◌++◌, Result, Ok, Err, leb, eqb, length, get_or, set, replicate}
 use Rattle.counting.specs.Block.{bit_at}
 use Rattle.counting.specs.Buffer.{put}
 use Rattle.counting.specs.Recording.{block_bytes, stride, capacity}
+use Rattle.counting.specs.Refusal.{number_of}
+use Rattle.counting.specs.declared.refusal.Refusal.{Refusal}
 use Rattle.sampling.specs.Cut.{whole, rest}
 use Rattle.sampling.specs.Putting.{put_bytes, arriving_bit}
 use Rattle.sampling.specs.Sampler.{pending, tail_of, sampler_refusal}
 use Rattle.sampling.specs.declared.sampler.Head.{Head}
 use Rattle.sampling.specs.declared.sampler.Sampler.{Sampler}
-use Rattle.sampling.specs.declared.feeding.Fed.{Fed}
-use Rattle.sampling.specs.declared.feeding.Taken.{Taken}
+use Rattle.sampling.specs.declared.feeding.Taken.{Taken as TakenNumbers}
 
 -- the bytes that a piece of `new` bytes and the unfinished ones of its board are together
 abbrev pub together : Head → ℕ → ℕ → ℕ
@@ -31,6 +32,17 @@ feed_refusal s words board new =
 -- so many bytes of a piece are used for the blocks that it completes, of which there is one at least
 abbrev pub Completes : Head → ℕ → ℕ → ℕ → Type 0
 Completes s board new used = (1 ≤ completed s board new) × (pending s board + used ≡ completed s board new * block_bytes s.block_size)
+
+-- what a feed answers where the unfinished bytes are lent: a refusal, 0 where there is none, and the numbers that it changes
+pub record Taken : Type 0 where
+  pub refusal : ℕ
+  pub blocks : ℕ
+  pub left : ℕ
+
+-- .. as code answers it
+abbrev pub as_taken : Result TakenNumbers Refusal → Taken
+as_taken (Ok t) = record { refusal = 0; blocks = t.blocks; left = t.left }
+as_taken (Err r) = record { refusal = number_of r; blocks = 0; left = 0 }
 
 -- what a feed answers where the unfinished bytes are lent: n, and how many bytes its board has left; 0 beside a refusal
 unfoldable pub taken_of : Head → ℕ → ℕ → ℕ → Taken
@@ -79,6 +91,16 @@ left_on s unfinished board piece =
 unfoldable pub fed_unfinished : Head → ℕ → List ℕ → ℕ → List ℕ → List ℕ
 fed_unfinished s words unfinished board piece =
     cond (eqb (feed_refusal s words board (length piece)) 0) (put unfinished (512 * board) (left_on s unfinished board piece)) unfinished
+
+-- what feed answers: a refusal, 0 where there is none, and the sampler for the next call
+pub record Fed : Type 0 where
+  pub refusal : ℕ
+  pub sampler : Sampler
+
+-- .. as code answers it to the sampler given, which is the next call's where refused
+abbrev pub as_fed : Sampler → Result Sampler Refusal → Fed
+as_fed s (Ok t) = record { refusal = 0; sampler = t }
+as_fed s (Err r) = record { refusal = number_of r; sampler = s }
 
 -- feed's answer: the sampler for the next call, which is the one given where refused
 unfoldable pub fed_of : Sampler → ℕ → ℕ → List ℕ → Fed

@@ -1,10 +1,11 @@
 -- The sampler: what start answers, and the words after it; the unfinished bytes of a board; refusal 4.
-use Rattle.std.specs.Prelude.{ℕ, ◌*◌, Bool, false, cond, ◌&&◌, List, [], ◌∷◌, leb, ltb, eqb, length, get_or, take, drop, replicate}
+use Rattle.std.specs.Prelude.{ℕ, ◌*◌, Bool, false, cond, ◌&&◌, List, [], ◌∷◌, Result, Ok, Err, leb, ltb, eqb, length, get_or, take, drop, replicate}
 use Rattle.counting.specs.Block.{valid_size}
 use Rattle.counting.specs.Recording.{block_bytes, capacity}
+use Rattle.counting.specs.Refusal.{number_of}
+use Rattle.counting.specs.declared.refusal.Refusal.{Refusal}
 use Rattle.sampling.specs.declared.sampler.Head.{Head}
 use Rattle.sampling.specs.declared.sampler.Sampler.{Sampler}
-use Rattle.sampling.specs.declared.sampler.Started.{Started}
 
 -- a sampler of these words and this bit order that has no byte
 abbrev pub fresh_sampler : ℕ → Bool → ℕ → Sampler
@@ -17,6 +18,16 @@ fresh_sampler B low words =
 -- beside a refusal every field is 0, which is the high bit first
 abbrev pub no_sampler : Sampler
 no_sampler = fresh_sampler 0 false 0
+
+-- what start answers: a refusal, 0 where there is none, and the fresh sampler
+pub record Started : Type 0 where
+  pub refusal : ℕ
+  pub sampler : Sampler
+
+-- .. as code answers it
+abbrev pub as_started : Result Sampler Refusal → Started
+as_started (Ok s) = record { refusal = 0; sampler = s }
+as_started (Err r) = record { refusal = number_of r; sampler = no_sampler }
 
 -- start: a fresh sampler; 1 where B is outside its limits
 unfoldable pub started_of : ℕ → Bool → ℕ → Started

@@ -1,12 +1,14 @@
 // The carry-over of a sampler that was made under the earlier rule.
 ghost use Rattle.std.specs.Prelude.{◌≡◌, ◌+◌, ◌*◌, ◌≤◌, ◌<◌, length};
 ghost use Rattle.counting.specs.Words.{stored_bit};
+ghost use Rattle.counting.specs.Refusal.{refusal_of};
 ghost use Rattle.counting.specs.Sample.{list_of};
 ghost use Rattle.sampling.specs.Earlier.{earlier_refusal};
-ghost use Rattle.sampling.specs.Carrying.{BlockIn, clear_bit, clear_bits, stored_byte, carried_of, carried_words};
+ghost use Rattle.sampling.specs.Carrying.{BlockIn, clear_bit, clear_bits, stored_byte, as_carried, carried_of, carried_words};
 
-use crate::sampler::{Head, Sampler, capacity_bytes, no_bytes, no_sampler};
+use crate::sampler::{Head, Sampler, capacity_bytes, no_bytes};
 use counting::block::{place_in, valid_block_size};
+use counting::refusal::Refusal;
 
 // A sampler of the earlier rule: the block size in bits, how many words are lent, the bytes taken so far (T), and whether the low bit of a byte comes first.
 #[derive(Clone, Copy)]
@@ -17,26 +19,13 @@ pub struct Earlier {
     pub low_first: bool,
 }
 
-// What the carry-over answers: a refusal, 0 where there is none, and the sampler that goes on.
-#[derive(Clone, Copy)]
-pub struct Carried {
-    pub refusal: u32,
-    pub sampler: Sampler,
-}
-
-// Carries a sampler of the earlier rule over: its unfinished bytes become board 0's, and are cleared from the words. Refusal 4, by the earlier rule: then the
-// words stay as they were.
-pub fn carry_over(earlier: Earlier, words: &mut [u64]) -> Carried
-    ensures value { result ≡ carried_of earlier words.old }
+// Carries a sampler of the earlier rule over, and answers the sampler that goes on: its unfinished bytes become board 0's, and are cleared from the words.
+// Refusal 4, by the earlier rule: then the words stay as they were.
+pub fn carry_over(earlier: Earlier, words: &mut [u64]) -> Result<Sampler, Refusal>
+    ensures value { as_carried result ≡ carried_of earlier words.old }
     ensures words_after { words.new ≡ carried_words earlier words.old }
 {
-    let refusal = earlier_refusal(earlier, words.len());
-    if refusal != 0 {
-        return Carried {
-            refusal,
-            sampler: no_sampler(),
-        };
-    }
+    earlier_refusal(earlier, words.len())?;
     let block_size = earlier.block_size;
     let blocks = earlier.taken / (block_size / 8);
     let left = earlier.taken % (block_size / 8);
@@ -50,36 +39,33 @@ pub fn carry_over(earlier: Earlier, words: &mut [u64]) -> Carried
         &mut unfinished[..left],
     );
     clear_bits(words, stride, blocks, 8 * left);
-    Carried {
-        refusal: 0,
-        sampler: Sampler {
-            head: Head {
-                block_size,
-                words: earlier.words,
-                blocks,
-                low_first: earlier.low_first,
-                lengths: [left, 0, 0, 0],
-            },
-            unfinished,
+    Ok(Sampler {
+        head: Head {
+            block_size,
+            words: earlier.words,
+            blocks,
+            low_first: earlier.low_first,
+            lengths: [left, 0, 0, 0],
         },
-    }
+        unfinished,
+    })
 }
 
-// 4 where the earlier sampler is none of these words, else 0.
-fn earlier_refusal(earlier: Earlier, words: usize) -> u32
+// Refusal 4 where the earlier sampler is none of these words.
+fn earlier_refusal(earlier: Earlier, words: usize) -> Result<(), Refusal>
     requires { 8 * words < 9223372036854775808 }
-    ensures { result ≡ earlier_refusal earlier words }
+    ensures { refusal_of result ≡ earlier_refusal earlier words }
 {
     if !valid_block_size(earlier.block_size) {
-        return 4;
+        return Err(Refusal::Sampler);
     }
     if earlier.words != words {
-        return 4;
+        return Err(Refusal::Sampler);
     }
     if earlier.taken > capacity_bytes(earlier.block_size, words) {
-        return 4;
+        return Err(Refusal::Sampler);
     }
-    0
+    Ok(())
 }
 
 // The first bytes of block e, as many as there is room for, as the words have them.

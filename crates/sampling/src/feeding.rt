@@ -1,40 +1,36 @@
 // Feeding: a piece goes to its board, and the blocks that it completes into the words.
-ghost use Rattle.std.specs.Prelude.{◌≡◌, ◌+◌, ◌-◌, ◌*◌, ◌≤◌, ◌<◌, length, replicate};
+ghost use Rattle.std.specs.Prelude.{◌≡◌, ◌+◌, ◌-◌, ◌*◌, ◌≤◌, ◌<◌, Ok, length, replicate};
 ghost use Rattle.counting.specs.Buffer.{put};
-ghost use Rattle.sampling.specs.Feeding.{Completes, feed_refusal, taken_of, next_head, fed_unfinished, fed_of, fed_words};
+ghost use Rattle.counting.specs.Refusal.{refusal_of};
+ghost use Rattle.sampling.specs.Feeding.{Completes, feed_refusal, as_taken, taken_of, next_head, as_fed, fed_unfinished, fed_of, fed_words};
 ghost use Rattle.sampling.specs.Sampler.{pending};
 
 use crate::putting::{Place, put_bytes};
 use crate::sampler::{Head, Sampler, capacity_blocks, sampler_refusal};
+use counting::refusal::Refusal;
 
-// What feed answers: a refusal, 0 where there is none, and the sampler for the next call.
-#[derive(Clone, Copy)]
-pub struct Fed {
-    pub refusal: u32,
-    pub sampler: Sampler,
-}
-
-// .. of a sampler whose unfinished bytes are lent: what a feed that is not refused changes of the numbers, n and how many unfinished bytes its board has; beside a
-// refusal 0.
+// What a feed changes of the numbers: n, and how many unfinished bytes its board has.
 #[derive(Clone, Copy)]
 pub struct Taken {
-    pub refusal: u32,
     pub blocks: usize,
     pub left: usize,
 }
 
-// Takes the next piece of a board's recording. Refusals 4, 21, 5: then the words and the sampler stay as they were.
-pub fn feed(sampler: Sampler, words: &mut [u64], board: usize, piece: &[u8]) -> Fed
-    ensures value { result ≡ fed_of sampler (length words.old) board piece.now }
+// Takes the next piece of a board's recording, and answers the sampler for the next call. Refusals 4, 21, 5: then the words stay as they were, and the next call
+// takes the sampler given.
+pub fn feed(
+    sampler: Sampler,
+    words: &mut [u64],
+    board: usize,
+    piece: &[u8],
+) -> Result<Sampler, Refusal>
+    ensures value { as_fed sampler result ≡ fed_of sampler (length words.old) board piece.now }
     ensures words_after { words.new ≡ fed_words sampler.head sampler.unfinished words.old board piece.now }
 {
     let mut unfinished = sampler.unfinished;
-    let taken = feed_lent(sampler.head, &mut unfinished, words, board, piece);
+    let taken = feed_lent(sampler.head, &mut unfinished, words, board, piece)?;
     let head = next_head(sampler.head, board, taken);
-    Fed {
-        refusal: taken.refusal,
-        sampler: Sampler { head, unfinished },
-    }
+    Ok(Sampler { head, unfinished })
 }
 
 // The same where the 2,048 unfinished bytes are lent, so that none is copied but those of the piece.
@@ -44,43 +40,33 @@ pub fn feed_lent(
     words: &mut [u64],
     board: usize,
     piece: &[u8],
-) -> Taken
+) -> Result<Taken, Refusal>
     requires { length unfinished.old ≡ 2048 }
-    ensures value { result ≡ taken_of head (length words.old) board (length piece.now) }
+    ensures value { as_taken result ≡ taken_of head (length words.old) board (length piece.now) }
     ensures unfinished_after { unfinished.new ≡ fed_unfinished head (length words.old) unfinished.old board piece.now }
     ensures words_after { words.new ≡ fed_words head unfinished.old words.old board piece.now }
 {
-    let refusal = feed_refusal(head, words.len(), board, piece.len());
-    if refusal != 0 {
-        return Taken {
-            refusal,
-            blocks: 0,
-            left: 0,
-        };
-    }
+    feed_refusal(head, words.len(), board, piece.len())?;
     take_piece(head, unfinished, words, board, piece);
-    taken_of(head, words.len(), board, piece.len())
+    Ok(taken_of(head, words.len(), board, piece.len()))
 }
 
-// 4, 21, 5, or 0 where a piece of `new` bytes can be taken.
-fn feed_refusal(head: Head, words: usize, board: usize, new: usize) -> u32
+// Refusals 4, 21, 5 where no piece of `new` bytes can be taken.
+fn feed_refusal(head: Head, words: usize, board: usize, new: usize) -> Result<(), Refusal>
     requires words_bound { 8 * words < 9223372036854775808 }
     requires bound { new < 9223372036854775808 }
-    ensures { result ≡ feed_refusal head words board new }
+    ensures { refusal_of result ≡ feed_refusal head words board new }
 {
-    let refusal = sampler_refusal(head, words);
-    if refusal != 0 {
-        return refusal;
-    }
+    sampler_refusal(head, words)?;
     let unknown = board > 3;
     if unknown {
-        return 21;
+        return Err(Refusal::Board);
     }
     let done = (unfinished_on(head, board) + new) / (head.block_size / 8);
     if head.blocks + done > capacity_blocks(head.block_size, words) {
-        return 5;
+        return Err(Refusal::Full);
     }
-    0
+    Ok(())
 }
 
 // How many unfinished bytes a board has; each place is a constant, so that no copy of the four is made to be read at another.
@@ -105,12 +91,11 @@ fn unfinished_on(head: Head, board: usize) -> usize
 fn taken_of(head: Head, words: usize, board: usize, new: usize) -> Taken
     requires value { feed_refusal head words board new ≡ 0 }
     requires bound { new < 9223372036854775808 }
-    ensures { result ≡ taken_of head words board new }
+    ensures { as_taken (Ok result) ≡ taken_of head words board new }
 {
     let size = head.block_size / 8;
     let all = unfinished_on(head, board) + new;
     Taken {
-        refusal: 0,
         blocks: head.blocks + all / size,
         left: all % size,
     }
@@ -118,12 +103,9 @@ fn taken_of(head: Head, words: usize, board: usize, new: usize) -> Taken
 
 // The numbers after a feed to the board.
 fn next_head(head: Head, board: usize, taken: Taken) -> Head
-    requires { taken.refusal ≡ 0 → board < 4 }
-    ensures { result ≡ next_head head board taken }
+    requires { board < 4 }
+    ensures { result ≡ next_head head board (as_taken (Ok taken)) }
 {
-    if taken.refusal != 0 {
-        return head;
-    }
     let mut lengths = head.lengths;
     lengths[board] = taken.left;
     Head {

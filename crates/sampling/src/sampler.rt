@@ -1,9 +1,11 @@
 // The sampler, its start, and what it is refused for.
 ghost use Rattle.std.specs.Prelude.{◌≡◌, ◌*◌, ◌≤◌, ◌<◌, length, replicate};
 ghost use Rattle.counting.specs.Recording.{capacity, capacity_bytes};
-ghost use Rattle.sampling.specs.Sampler.{no_sampler, started_of, started_words, blocks_of, each_short, sampler_refusal};
+ghost use Rattle.counting.specs.Refusal.{refusal_of};
+ghost use Rattle.sampling.specs.Sampler.{no_sampler, as_started, started_of, started_words, blocks_of, each_short, sampler_refusal};
 
 use counting::block::valid_block_size;
+use counting::refusal::Refusal;
 
 // All of a sampler but its unfinished bytes: the block size in bits, how many words are lent, the blocks completed so far (n), whether the low bit of a byte
 // comes first, and how many unfinished bytes each of the four boards has.
@@ -23,39 +25,26 @@ pub struct Sampler {
     pub unfinished: [u8; 2048],
 }
 
-// What start answers: a refusal, 0 where there is none, and the fresh sampler.
-#[derive(Clone, Copy)]
-pub struct Started {
-    pub refusal: u32,
-    pub sampler: Sampler,
-}
-
-// Clears the words for a new recording of blocks of block_size bits, in the given bit order. Refusal 1.
-pub fn start(block_size: usize, low_first: bool, words: &mut [u64]) -> Started
-    ensures value { result ≡ started_of block_size low_first (length words.old) }
+// Clears the words for a new recording of blocks of block_size bits, in the given bit order, and answers the fresh sampler. Refusal 1.
+pub fn start(block_size: usize, low_first: bool, words: &mut [u64]) -> Result<Sampler, Refusal>
+    ensures value { as_started result ≡ started_of block_size low_first (length words.old) }
     ensures words_after { words.new ≡ started_words block_size words.old }
 {
     if !valid_block_size(block_size) {
-        return Started {
-            refusal: 1,
-            sampler: no_sampler(),
-        };
+        return Err(Refusal::BlockSize);
     }
     clear(words);
     let unfinished = no_bytes();
-    Started {
-        refusal: 0,
-        sampler: Sampler {
-            head: Head {
-                block_size,
-                words: words.len(),
-                blocks: 0,
-                low_first,
-                lengths: [0; 4],
-            },
-            unfinished,
+    Ok(Sampler {
+        head: Head {
+            block_size,
+            words: words.len(),
+            blocks: 0,
+            low_first,
+            lengths: [0; 4],
         },
-    }
+        unfinished,
+    })
 }
 
 // What stands beside a refusal: every field 0.
@@ -89,24 +78,24 @@ pub fn blocks(sampler: Head) -> usize
     sampler.blocks
 }
 
-// 4 where the sampler is none of these words, else 0.
-pub fn sampler_refusal(sampler: Head, words: usize) -> u32
+// Refusal 4 where the sampler is none of these words.
+pub fn sampler_refusal(sampler: Head, words: usize) -> Result<(), Refusal>
     requires { 8 * words < 9223372036854775808 }
-    ensures { result ≡ sampler_refusal sampler words }
+    ensures { refusal_of result ≡ sampler_refusal sampler words }
 {
     if !valid_block_size(sampler.block_size) {
-        return 4;
+        return Err(Refusal::Sampler);
     }
     if sampler.words != words {
-        return 4;
+        return Err(Refusal::Sampler);
     }
     if sampler.blocks > capacity_blocks(sampler.block_size, words) {
-        return 4;
+        return Err(Refusal::Sampler);
     }
     if !each_short(sampler) {
-        return 4;
+        return Err(Refusal::Sampler);
     }
-    0
+    Ok(())
 }
 
 // Whether each board has fewer unfinished bytes than a block.

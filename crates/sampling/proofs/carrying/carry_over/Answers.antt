@@ -1,34 +1,33 @@
 -- `carrying::carry_over` meets its contract: the unfinished bytes are read from their lane, and then cleared there.
 use mathlib.Core.Path.{◌≡◌, refl, sym, ap, ◌∙◌}
-use mathlib.Core.Bool.{false}
 use mathlib.Core.List.{List, [], ◌∷◌, ◌++◌}
 use Prim.Native.Nat.{ℕ, ◌≤◌}
 use native.Mathlib.Omega.{arith}
-use lib.Dec.{eqb}
 use lib.ListN.{length, take, drop, replicate, length-replicate}
 use lib.Seq.{length-take-le}
-use borrow.Author.Tests.{ne_eqb}
 use Rattle.counting.specs.Buffer.{put}
 use Rattle.counting.specs.Sample.{list_of}
 use Rattle.counting.specs.Recording.{stride}
 use Rattle.counting.proofs.Buffers.{put_first}
 use Rattle.counting.proofs.Counts.{length_list}
-use Rattle.sampling.specs.Carrying.{stored_byte, whole_of, left_of, left_bytes, carried_of, carried_words}
+use Rattle.sampling.specs.Carrying.{stored_byte, whole_of, left_of, left_bytes, Carried, as_carried, carried_of, carried_words}
 use Rattle.sampling.specs.Earlier.{earlier_refusal}
+use Rattle.sampling.specs.Sampler.{no_sampler}
 use Rattle.sampling.proofs.Lifting.{Lifts, lifts}
-use Rattle.sampling.proofs.carrying.carry_over.Goals.{After-no_bytes-unfinished, Else-refusal-ne0}
+use Rattle.sampling.proofs.Refused.{refused, passed_on}
+use Rattle.sampling.proofs.carrying.carry_over.Goals.{After-no_bytes-unfinished, In_ok-earlier_refusal}
 use Rattle.sampling.proofs.carrying.carry_over.Goals as goal
 
 -- ---- past the refusal
 
-none : (e : Else-refusal-ne0) → earlier_refusal e.args.earlier (length e.args.words.now) ≡ 0
-none e = sym e.earlier_refusal-refusal.ensures ∙ e.if-refusal-ne0.false
+none : (e : In_ok-earlier_refusal) → earlier_refusal e.args.earlier (length e.args.words.now) ≡ 0
+none e = sym e.in_ok-earlier_refusal.ensures
 
-has : (e : Else-refusal-ne0) → Lifts e.args.earlier (length e.args.words.now)
+has : (e : In_ok-earlier_refusal) → Lifts e.args.earlier (length e.args.words.now)
 has e = lifts e.args.earlier (length e.args.words.now) (none e)
 
-abbrev past : After-no_bytes-unfinished → Else-refusal-ne0
-past d = (goal.at.slice_bounds-unfinished-end d).Else-refusal-ne0
+abbrev past : After-no_bytes-unfinished → In_ok-earlier_refusal
+past d = (goal.at.slice_bounds-unfinished-end d).In_ok-earlier_refusal
 
 -- there is room for the bytes
 long : (d : After-no_bytes-unfinished) → length d.no_bytes-unfinished.result ≡ 2048
@@ -40,22 +39,25 @@ room d = let h = has (past d) in omega (arith, long d, h.few, h.at_most)
 part_long : (d : After-no_bytes-unfinished) → length (take (left_of d.args.earlier) d.no_bytes-unfinished.result) ≡ left_of d.args.earlier
 part_long d = length-take-le (left_of d.args.earlier) d.no_bytes-unfinished.result (room d)
 
-pub returns-then-refusal-ne0 : goal.returns-then-refusal-ne0
+pub returns-in_err-earlier_refusal : goal.returns-in_err-earlier_refusal
 unfolding carried_of carried_words
-returns-then-refusal-ne0 c =
-    let a = c.args in
-    let is = c.earlier_refusal-refusal.ensures in
-    let not : eqb (earlier_refusal a.earlier (length a.words.now)) 0 ≡ false = ne_eqb _ _ (λ z. c.if-refusal-ne0.true (is ∙ z)) in
-    record { value = simp not (λ i. record { refusal = is i; sampler = c.no_sampler.ensures i }); words_after = simp not refl }
+returns-in_err-earlier_refusal c =
+    let is = c.in_err-earlier_refusal.ensures in
+    let not = refused _ _ is in
+    let refused_with : ℕ → Carried = λ n. record { refusal = n; sampler = no_sampler } in
+    record {
+      value = simp not (ap as_carried (passed_on c.from_residual.result _ c.from_residual.ensures.1) ∙ ap refused_with is);
+      words_after = simp not refl;
+    }
 
 pub nonzero_div-blocks-2 : goal.nonzero_div-blocks-2
-nonzero_div-blocks-2 c = omega (arith, (has (goal.at.nonzero_div-blocks-2 c).Else-refusal-ne0).size)
+nonzero_div-blocks-2 c = omega (arith, (has (goal.at.nonzero_div-blocks-2 c).In_ok-earlier_refusal).size)
 
 pub nonzero_rem-left : goal.nonzero_rem-left
-nonzero_rem-left c = omega (arith, (has (goal.at.nonzero_rem-left c).Else-refusal-ne0).size)
+nonzero_rem-left c = omega (arith, (has (goal.at.nonzero_rem-left c).In_ok-earlier_refusal).size)
 
 pub nonzero_div-stride : goal.nonzero_div-stride
-nonzero_div-stride c = omega (arith, (has (goal.at.nonzero_div-stride c).Else-refusal-ne0).size)
+nonzero_div-stride c = omega (arith, (has (goal.at.nonzero_div-stride c).In_ok-earlier_refusal).size)
 
 pub slice_bounds-unfinished-end : goal.slice_bounds-unfinished-end
 slice_bounds-unfinished-end c = room c

@@ -5,21 +5,23 @@ use Prim.Native.Nat.{ℕ, ◌+◌, ◌*◌, ◌/◌, ◌≤◌, ◌<◌}
 use native.Mathlib.Nat.{min-le_right, div-le_self}
 use native.Mathlib.Omega.{arith}
 use lib.Dec.{leb}
-use borrow.Author.Tests.{ne_eqb, le-leb, lt-leb}
+use borrow.Author.Tests.{le-leb, lt-leb}
 use Rattle.counting.specs.Recording.{block_bytes, capacity}
+use Rattle.counting.specs.Refusal.{refusal_of}
 use Rattle.counting.proofs.Accepted.{valid_facts}
 use Rattle.sampling.specs.Feeding.{together, completed, feed_refusal}
 use Rattle.sampling.specs.Sampler.{sampler_refusal}
+use Rattle.sampling.proofs.Refused.{refused, passed_on}
 use Rattle.sampling.proofs.Usable.{Usable, usable}
-use Rattle.sampling.proofs.feeding.feed_refusal.Goals.{After-unfinished_on, Else-unknown, Else-refusal-ne0}
+use Rattle.sampling.proofs.feeding.feed_refusal.Goals.{After-unfinished_on, Else-unknown, In_ok-sampler_refusal}
 use Rattle.sampling.proofs.feeding.feed_refusal.Goals as goal
 
 -- past the sampler's refusal
-free : (c : Else-refusal-ne0) → sampler_refusal c.args.head c.args.words ≡ 0
-free c = sym c.sampler_refusal-refusal.ensures ∙ c.if-refusal-ne0.false
+free : (c : In_ok-sampler_refusal) → sampler_refusal c.args.head c.args.words ≡ 0
+free c = sym c.in_ok-sampler_refusal.ensures
 
 fit : (e : Else-unknown) → Usable e.args.head e.args.words
-fit e = usable e.args.head e.args.words (free (goal.at.unfinished_on-requires e).Else-refusal-ne0)
+fit e = usable e.args.head e.args.words (free (goal.at.unfinished_on-requires e).In_ok-sampler_refusal)
 
 named : (e : Else-unknown) → leb e.args.board 3 ≡ true
 named e = le-leb _ _ e.if-unknown.false
@@ -29,15 +31,15 @@ done_is : (u : After-unfinished_on) → let a = u.args in
     (u.unfinished_on.result + a.new) / block_bytes a.head.block_size ≡ completed a.head a.board a.new
 done_is u = let a = u.args in ap (λ (m : ℕ). (m + a.new) / block_bytes a.head.block_size) u.unfinished_on.ensures
 
-pub returns-then-refusal-ne0 : goal.returns-then-refusal-ne0
+pub returns-in_err-sampler_refusal : goal.returns-in_err-sampler_refusal
 unfolding feed_refusal
-returns-then-refusal-ne0 c =
-    let is = c.sampler_refusal-refusal.ensures in
-    simp (ne_eqb _ _ (λ z. c.if-refusal-ne0.true (is ∙ z))) is
+returns-in_err-sampler_refusal c =
+    let is = c.in_err-sampler_refusal.ensures in
+    simp (refused _ _ is) (ap refusal_of (passed_on c.from_residual.result _ c.from_residual.ensures.1) ∙ is)
 
 pub returns-then-unknown : goal.returns-then-unknown
 unfolding feed_refusal
-returns-then-unknown c = simp (free (goal.at.returns-then-unknown c).Else-refusal-ne0, lt-leb _ _ c.if-unknown.true)
+returns-then-unknown c = simp (free (goal.at.returns-then-unknown c).In_ok-sampler_refusal, lt-leb _ _ c.if-unknown.true)
 
 pub unfinished_on-requires : goal.unfinished_on-requires
 unfinished_on-requires c = omega (arith, c.if-unknown.false)
@@ -68,7 +70,7 @@ returns-then-head-done c =
     let a = c.args in
     let over : capacity a.head.block_size a.words < a.head.blocks + completed a.head a.board a.new =
     omega (arith, c.capacity_blocks.ensures, done_is (goal.at.returns-then-head-done c).After-unfinished_on) in
-    simp (free (goal.at.returns-then-head-done c).Else-refusal-ne0, named (goal.at.returns-then-head-done c).Else-unknown, lt-leb _ _ over)
+    simp (free (goal.at.returns-then-head-done c).In_ok-sampler_refusal, named (goal.at.returns-then-head-done c).Else-unknown, lt-leb _ _ over)
 
 pub returns : goal.returns
 unfolding feed_refusal
@@ -76,4 +78,4 @@ returns c =
     let a = c.args in
     let within : a.head.blocks + completed a.head a.board a.new ≤ capacity a.head.block_size a.words =
     omega (arith, c.capacity_blocks.ensures, done_is (goal.at.returns c).After-unfinished_on) in
-    simp (free (goal.at.returns c).Else-refusal-ne0, named (goal.at.returns c).Else-unknown, le-leb _ _ within)
+    simp (free (goal.at.returns c).In_ok-sampler_refusal, named (goal.at.returns c).Else-unknown, le-leb _ _ within)

@@ -4,8 +4,7 @@ use Prim.Native.Nat.{ℕ, ◌+◌, ◌/◌, ◌%◌}
 use native.Mathlib.Omega.{arith}
 use Rattle.counting.specs.Recording.{block_bytes}
 use Rattle.counting.proofs.Accepted.{Valid, valid_facts}
-use Rattle.sampling.specs.Feeding.{taken_of}
-use Rattle.sampling.specs.declared.feeding.Taken.{Taken}
+use Rattle.sampling.specs.Feeding.{Taken, taken_of}
 use Rattle.sampling.proofs.Usable.{Accepted, accepted}
 use Rattle.sampling.proofs.feeding.taken_of.Goals.{Start}
 use Rattle.sampling.proofs.feeding.taken_of.Goals as goal

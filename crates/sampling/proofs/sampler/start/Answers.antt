@@ -11,7 +11,7 @@ pub returns-then-not-valid_block_size : goal.returns-then-not-valid_block_size
 unfolding started_of started_words
 returns-then-not-valid_block_size c =
     let bad : valid_size c.args.block_size ≡ false = sym c.valid_block_size.ensures ∙ c.if-not-valid_block_size.true in
-    record { value = simp bad (λ i. record { refusal = 1; sampler = c.no_sampler.ensures i }); words_after = simp bad refl }
+    record { value = simp bad refl; words_after = simp bad refl }
 
 pub returns : goal.returns
 unfolding started_of started_words
