@@ -3,19 +3,11 @@ ghost use Rattle.std.specs.Prelude.{◌≡◌, ℕ, ◌/◌, ◌≤◌, ◌<◌,
 ghost use Rattle.counting.specs.Block.{valid_size, place_in, block_bit, bin_of};
 
 // Whether B is a multiple of 8 from 8 to 4,096.
+#[tactic(auto, unfolding(crate::specs::Block::valid_size))]
 pub fn valid_block_size(block_size: usize) -> bool
     ensures { result ≡ valid_size block_size }
 {
-    if block_size % 8 != 0 {
-        return false;
-    }
-    if block_size < 8 {
-        return false;
-    }
-    if block_size > 4096 {
-        return false;
-    }
-    true
+    block_size % 8 == 0 && 8 <= block_size && block_size <= 4096
 }
 
 // Which bit of a byte is number r of its 8, from 0 on, in the bit order.
@@ -50,10 +42,8 @@ pub fn bits_block_eval(bits: &[u32], low_first: bool, block: &[u8]) -> u32
     ensures { (result ≡ bin_of (block_bit low_first block.now) bits.now) × (result < 2 ^ length bits.now) }
 {
     let mut result: u32 = 0;
-    let mut i = bits.len();
-    while 0 < i {
-        i -= 1;
-        result = 2 * result + bit_value_in_block(bits[i] as usize, low_first, block);
+    for bit in bits.iter().rev() {
+        result = 2 * result + bit_value_in_block(*bit as usize, low_first, block);
     }
     result
 }

@@ -1,5 +1,5 @@
 // The chunks in which the rows of a stretch are counted.
-ghost use Rattle.std.specs.Prelude.{◌≡◌, ◌-◌, ◌*◌, ◌≤◌, min};
+ghost use Rattle.std.specs.Prelude.{◌≡◌, ◌*◌, ◌≤◌};
 ghost use Rattle.counting.specs.Chunk.{chunk_at, is_short};
 ghost use Rattle.counting.specs.Stretch.{Within};
 
@@ -23,8 +23,8 @@ pub fn chunk_at(stretch: Stretch, start: usize) -> Chunk
     Chunk {
         stride: stretch.stride,
         start,
-        skip: less(stretch.first, base),
-        lanes: at_most(stretch.end - base, 32768),
+        skip: stretch.first.saturating_sub(base),
+        lanes: (stretch.end - base).min(32768),
     }
 }
 
@@ -33,18 +33,4 @@ pub fn is_short(chunk: Chunk) -> bool
     ensures { result ≡ is_short chunk }
 {
     chunk.lanes <= 4096
-}
-
-// a less b; 0 where b is more.
-fn less(a: usize, b: usize) -> usize
-    ensures { result ≡ a - b }
-{
-    if a < b { 0 } else { a - b }
-}
-
-// The smaller.
-fn at_most(a: usize, b: usize) -> usize
-    ensures { result ≡ min a b }
-{
-    if a < b { a } else { b }
 }

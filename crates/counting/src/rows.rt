@@ -21,12 +21,9 @@ pub fn multi_eval(bits: &[u32], next: usize, words: &[u64], stretch: Stretch, co
     requires counts_bound { (next + length counts.old < 4294967296) × ((next + length counts.old) * stretch.stride ≤ length words.now) }
     ensures { (j : ℕ) → j < length counts.old → get_or counts.new j 0 ≡ all_set (stretch_bit stretch words.now) (span stretch) (bits.now ++ ((next + j) ∷ [])) }
 {
-    clear(counts);
-    let end = stretch.end;
-    let mut start = stretch.first / 64;
-    while 64 * start < end {
+    counts.fill(0);
+    for start in (stretch.first / 64..stretch.end.div_ceil(64)).step_by(512) {
         extend(bits, next, words, chunk_at(stretch, start), counts);
-        start += 512;
     }
 }
 
@@ -38,10 +35,10 @@ pub fn multi_eval_neg(bits: &[u32], words: &[u64], stretch: Stretch, bins: &mut 
     ensures { bins.new ≡ counts_of (stretch_bit stretch words.now) (span stretch) bits.now }
 {
     if is_short(chunk_at(stretch, stretch.first / 64)) {
-        let mut acc = few_marked();
+        let mut acc = all_marked::<64>();
         count_bins(&mut acc, bits, words, stretch, bins);
     } else {
-        let mut acc = all_marked();
+        let mut acc = all_marked::<512>();
         count_bins(&mut acc, bits, words, stretch, bins);
     }
 }
@@ -54,51 +51,21 @@ fn count_bins(acc: &mut [u64], bits: &[u32], words: &[u64], stretch: Stretch, bi
     requires within { Within stretch }
     ensures { bins.new ≡ counts_of (stretch_bit stretch words.now) (span stretch) bits.now }
 {
-    clear(bins);
-    let end = stretch.end;
-    let mut start = stretch.first / 64;
+    bins.fill(0);
     unmark(acc, stretch.first % 64);
-    while 64 * start < end {
-        let chunk = chunk_at(stretch, start);
-        add_bins(
-            acc,
-            words,
-            chunk.stride,
-            chunk.start,
-            chunk.lanes,
-            bits,
-            bins,
-        );
+    for start in (stretch.first / 64..stretch.end.div_ceil(64)).step_by(512) {
+        add_bins(acc, words, chunk_at(stretch, start), bits, bins);
         // Only the first chunk may begin inside a word.
         acc[0] = u64::MAX;
-        start += 512;
     }
 }
 
-fn clear(counts: &mut [u32])
-    ensures { counts.new ≡ replicate (length counts.old) 0 }
-{
-    let mut i: usize = 0;
-    while i < counts.len() {
-        counts[i] = 0;
-        i += 1;
-    }
-}
-
-// Marks for a chunk, every block marked.
-fn all_marked() -> [u64; 512]
-    ensures value { 512 ≡ length result }
+// Marks of 64 N blocks, every block marked.
+fn all_marked<const N: usize>() -> [u64; N]
+    ensures value { N ≡ length result }
     ensures marked_from { MarkedFrom 0 result }
 {
-    [u64::MAX; 512]
-}
-
-// The same for a short one.
-fn few_marked() -> [u64; 64]
-    ensures value { 64 ≡ length result }
-    ensures marked_from { MarkedFrom 0 result }
-{
-    [u64::MAX; 64]
+    [u64::MAX; N]
 }
 
 // Takes the marks of the first `skip` blocks away.
@@ -119,10 +86,10 @@ fn extend(bits: &[u32], next: usize, words: &[u64], chunk: Chunk, counts: &mut [
     ensures { (j : ℕ) → j < length counts.old → get_or counts.new j 0 ≡ get_or counts.old j 0 + all_set (chunk_bit chunk words.now) (chunk_blocks chunk) (bits.now ++ ((next + j) ∷ [])) }
 {
     if is_short(chunk) {
-        let mut acc = few_marked();
+        let mut acc = all_marked::<64>();
         extend_with(&mut acc, bits, next, words, chunk, counts);
     } else {
-        let mut acc = all_marked();
+        let mut acc = all_marked::<512>();
         extend_with(&mut acc, bits, next, words, chunk, counts);
     }
 }
@@ -159,15 +126,13 @@ fn and_rows(acc: &mut [u64], bits: &[u32], words: &[u64], chunk: Chunk)
     let start = chunk.start;
     let n = chunk.lanes;
     let m = (n + 63) / 64;
-    let mut i: usize = 0;
-    while i < bits.len() {
+    for i in (0..bits.len()).step_by(2) {
         let j = with_next(i, bits.len());
         let at = bits[i] as usize * stride + start;
         let end = at + m;
         let other = bits[j] as usize * stride + start;
         let other_end = other + m;
         and_two(acc, &words[at..end], &words[other..other_end]);
-        i += 2;
     }
 }
 
@@ -184,10 +149,8 @@ fn and_two(acc: &mut [u64], row: &[u64], other: &[u64])
     requires { (length row.now ≤ length acc.old) × (length other.now ≡ length row.now) }
     ensures { (t : ℕ) → t < length row.now → get_or acc.new t 0 ≡ bit_and (bit_and (get_or acc.old t 0) (get_or row.now t 0)) (get_or other.now t 0) }
 {
-    let mut t: usize = 0;
-    while t < row.len() {
+    for t in 0..row.len() {
         acc[t] = (acc[t] & row[t]) & other[t];
-        t += 1;
     }
 }
 
@@ -202,88 +165,55 @@ fn add_each(acc: &[u64], next: usize, words: &[u64], chunk: Chunk, counts: &mut 
     let start = chunk.start;
     let n = chunk.lanes;
     let m = (n + 63) / 64;
-    let mut j: usize = 0;
-    while j < counts.len() {
+    for j in 0..counts.len() {
         let at = (next + j) * stride + start;
         let end = at + m;
         let more = count_with(acc, &words[at..end], 0, n);
         counts[j] = counts[j] + more;
-        j += 1;
     }
 }
 
 // Adds to each bin of the bits the marked blocks in it. By the last bit, so that a bin with and one without it are half the bins
 // apart: the marks of either half are ANDed once for all its bins, and every bin is counted from rows.
-fn add_bins(
-    acc: &[u64],
-    words: &[u64],
-    stride: usize,
-    start: usize,
-    n: usize,
-    bits: &[u32],
-    bins: &mut [u32],
-)
+fn add_bins(acc: &[u64], words: &[u64], chunk: Chunk, bits: &[u32], bins: &mut [u32])
     requires in_bounds { (1 ≤ length bits.now) × (length bits.now ≤ 20) × (length bins.old ≡ 2 ^ length bits.now) }
-    requires rows_in { RowsIn words.now stride bits.now }
-    requires lanes_in { LanesIn stride start n × (n ≤ 64 * length acc.now) }
-    requires count_room { CountRoom n bins.old }
-    ensures { (v : ℕ) → v < length bins.old → get_or bins.new v 0 ≡ get_or bins.old v 0 + marked_in (lane_of (word_at acc.now)) (onward (64 * start) (stored_bit stride words.now)) bits.now n v }
+    requires rows_in { RowsIn words.now chunk.stride bits.now }
+    requires lanes_in { LanesIn chunk.stride chunk.start chunk.lanes × (chunk.lanes ≤ 64 * length acc.now) }
+    requires count_room { CountRoom chunk.lanes bins.old }
+    ensures { (v : ℕ) → v < length bins.old → get_or bins.new v 0 ≡ get_or bins.old v 0 + marked_in (lane_of (word_at acc.now)) (onward (64 * chunk.start) (stored_bit chunk.stride words.now)) bits.now chunk.lanes v }
 {
     let last = bits.len() - 1;
-    let at = bits[last] as usize * stride + start;
-    let end = at + (n + 63) / 64;
+    let at = bits[last] as usize * chunk.stride + chunk.start;
+    let end = at + (chunk.lanes + 63) / 64;
     if last < 2 {
-        add_few(acc, words, stride, start, n, bits, bins);
+        add_few(acc, words, chunk, bits, bins);
         return;
     }
     let half = bins.len() / 2;
-    let mut part = all_marked();
+    let mut part = all_marked::<512>();
     and_to(&mut part, acc, &words[at..end], 0);
-    add_bins(
-        &part,
-        words,
-        stride,
-        start,
-        n,
-        &bits[..last],
-        &mut bins[half..],
-    );
+    add_bins(&part, words, chunk, &bits[..last], &mut bins[half..]);
     and_to(&mut part, acc, &words[at..end], u64::MAX);
-    add_bins(
-        &part,
-        words,
-        stride,
-        start,
-        n,
-        &bits[..last],
-        &mut bins[..half],
-    );
+    add_bins(&part, words, chunk, &bits[..last], &mut bins[..half]);
 }
 
 // The same for one bit or two, with no marks between.
-fn add_few(
-    acc: &[u64],
-    words: &[u64],
-    stride: usize,
-    start: usize,
-    n: usize,
-    bits: &[u32],
-    bins: &mut [u32],
-)
+fn add_few(acc: &[u64], words: &[u64], chunk: Chunk, bits: &[u32], bins: &mut [u32])
     requires in_bounds { (1 ≤ length bits.now) × (length bits.now ≤ 2) × (length bins.old ≡ 2 ^ length bits.now) }
-    requires rows_in { RowsIn words.now stride bits.now }
-    requires lanes_in { LanesIn stride start n × (n ≤ 64 * length acc.now) }
-    requires count_room { CountRoom n bins.old }
-    ensures { (v : ℕ) → v < length bins.old → get_or bins.new v 0 ≡ get_or bins.old v 0 + marked_in (lane_of (word_at acc.now)) (onward (64 * start) (stored_bit stride words.now)) bits.now n v }
+    requires rows_in { RowsIn words.now chunk.stride bits.now }
+    requires lanes_in { LanesIn chunk.stride chunk.start chunk.lanes × (chunk.lanes ≤ 64 * length acc.now) }
+    requires count_room { CountRoom chunk.lanes bins.old }
+    ensures { (v : ℕ) → v < length bins.old → get_or bins.new v 0 ≡ get_or bins.old v 0 + marked_in (lane_of (word_at acc.now)) (onward (64 * chunk.start) (stored_bit chunk.stride words.now)) bits.now chunk.lanes v }
 {
+    let n = chunk.lanes;
     let m = (n + 63) / 64;
-    let low = bits[0] as usize * stride + start;
+    let low = bits[0] as usize * chunk.stride + chunk.start;
     let low_end = low + m;
     if bits.len() == 1 {
         add_two(acc, &words[low..low_end], n, bins);
         return;
     }
-    let high = bits[1] as usize * stride + start;
+    let high = bits[1] as usize * chunk.stride + chunk.start;
     let high_end = high + m;
     add_four(acc, &words[high..high_end], &words[low..low_end], n, bins);
 }
@@ -320,9 +250,7 @@ fn and_to(to: &mut [u64], acc: &[u64], row: &[u64], flip: u64)
     requires { (length row.now ≤ length acc.now) × (length row.now ≤ length to.old) }
     ensures { (t : ℕ) → t < length row.now → get_or to.new t 0 ≡ word_with (word_at acc.now) row.now flip t }
 {
-    let mut t: usize = 0;
-    while t < row.len() {
+    for t in 0..row.len() {
         to[t] = acc[t] & (row[t] ^ flip);
-        t += 1;
     }
 }

@@ -34,10 +34,8 @@ fn count_words(acc: &[u64], row: &[u64], flip: u64, m: usize) -> u32
     ensures { (result ≡ sum_to (ones_in (word_with (word_at acc.now) row.now flip)) m) × (result ≤ 64 * m) }
 {
     let mut sum: u64 = 0;
-    let mut t: usize = 0;
-    while t < m {
+    for t in 0..m {
         sum += ones_of(word(acc, row, flip, t));
-        t += 1;
     }
     sum as u32
 }
@@ -70,12 +68,10 @@ fn both_words(acc: &[u64], high: &[u64], flip: u64, low: &[u64], m: usize) -> Bo
 {
     let mut without: u64 = 0;
     let mut with: u64 = 0;
-    let mut t: usize = 0;
-    while t < m {
+    for t in 0..m {
         let w = word(acc, high, flip, t);
         without += ones_of(anded(w, low[t], u64::MAX));
         with += ones_of(anded(w, low[t], 0));
-        t += 1;
     }
     Both {
         without: without as u32,

@@ -18,7 +18,7 @@ sized : (t : ℕ) (s : Start t)
 sized t s = half_size s.args.bits.now (length s.args.bins.now) s.requires.in_bounds.0 s.requires.in_bounds.2
 
 -- the row of the last bit
-row : (t : ℕ) (s : Start t) → get_or s.args.bits.now (length s.args.bits.now - 1) 0 * s.args.stride + s.args.stride ≤ length s.args.words.now
+row : (t : ℕ) (s : Start t) → get_or s.args.bits.now (length s.args.bits.now - 1) 0 * s.args.chunk.stride + s.args.chunk.stride ≤ length s.args.words.now
 row t s = s.requires.rows_in (length s.args.bits.now - 1) (omega (arith, (sized t s).0))
 
 -- the bits before the last
@@ -30,9 +30,9 @@ init_power t s = (sized t s).1 ∙ ap (λ (k : ℕ). 2 ^ k) (sym (init_size t s)
 
 -- as far as the chunk goes
 abbrev first : (t : ℕ) → Start t → ℕ
-first t s = get_or s.args.bits.now (length s.args.bits.now - 1) 0 * s.args.stride + s.args.start
+first t s = get_or s.args.bits.now (length s.args.bits.now - 1) 0 * s.args.chunk.stride + s.args.chunk.start
 
-part_size : (t : ℕ) (s : Start t) → length (part_at s.args.words.now (first t s) ((s.args.n + 63) / 64)) ≡ (s.args.n + 63) / 64
+part_size : (t : ℕ) (s : Start t) → length (part_at s.args.words.now (first t s) ((s.args.chunk.lanes + 63) / 64)) ≡ (s.args.chunk.lanes + 63) / 64
 part_size t s = simp (length-take, length-drop) (omega (arith, row t s, s.requires.lanes_in))
 
 pub overflow_sub-last : goal.overflow_sub-last
@@ -106,8 +106,8 @@ add_bins-requires t c =
       (
         (omega (arith, init_size t (goal.at.add_bins-requires t c).Start, c.if-last-lt2.false), omega (arith, c.requires.in_bounds, init_size t (goal.at.add_bins-requires t c).Start), upper_size a.bins.now half (sized t (goal.at.add_bins-requires t c).Start).2 ∙ init_power t (goal.at.add_bins-requires t c).Start),
         (
-          rows_init a.words.now a.stride a.bits.now (length a.bits.now - 1) c.requires.rows_in,
-          ((c.requires.lanes_in.0, omega (arith, c.and_to.auto.to, c.all_marked-part.ensures.value)), room_upper a.n half (length a.bins.now - half) a.bins.now c.requires.count_room),
+          rows_init a.words.now a.chunk.stride a.bits.now (length a.bits.now - 1) c.requires.rows_in,
+          ((c.requires.lanes_in.0, omega (arith, c.and_to.auto.to, c.all_marked-part.ensures.value)), room_upper a.chunk.lanes half (length a.bins.now - half) a.bins.now c.requires.count_room),
         ),
       ),
     )
@@ -142,10 +142,10 @@ add_bins-requires-2 t c =
       (
         (omega (arith, init_size t (goal.at.add_bins-requires-2 t c).Start, c.if-last-lt2.false), omega (arith, c.requires.in_bounds, init_size t (goal.at.add_bins-requires-2 t c).Start), lower_size a.bins.now upper half (length a.bins.now - half) (sized t (goal.at.add_bins-requires-2 t c).Start).2 ∙ init_power t (goal.at.add_bins-requires-2 t c).Start),
         (
-          rows_init a.words.now a.stride a.bits.now (length a.bits.now - 1) c.requires.rows_in,
+          rows_init a.words.now a.chunk.stride a.bits.now (length a.bits.now - 1) c.requires.rows_in,
           (
             (c.requires.lanes_in.0, omega (arith, c.and_to-2.auto.to, c.and_to.auto.to, c.all_marked-part.ensures.value)),
-            room_lower a.n half (length a.bins.now - half) a.bins.now upper fits c.requires.count_room,
+            room_lower a.chunk.lanes half (length a.bins.now - half) a.bins.now upper fits c.requires.count_room,
           ),
         ),
       ),
@@ -167,7 +167,7 @@ returns t c =
     let lower = c.add_bins-2 in
     let marks = c.and_to in
     let marks' = c.and_to-2 in
-    halves a.words.now a.stride a.start a.n a.bits.now (length a.bits.now - 1) (first t (goal.at.returns t c).Start) (sized t (goal.at.returns t c).Start).0 refl (word_at a.acc.now)
+    halves a.words.now a.chunk.stride a.chunk.start a.chunk.lanes a.bits.now (length a.bits.now - 1) (first t (goal.at.returns t c).Start) (sized t (goal.at.returns t c).Start).0 refl (word_at a.acc.now)
     a.bins.now upper.new.bins lower.new.bins (word_at marks.new.to) (word_at marks'.new.to) (length a.bins.now / 2) (sized t (goal.at.returns t c).Start).1 (sized t (goal.at.returns t c).Start).2
     (omega (arith, row t (goal.at.returns t c).Start, c.requires.lanes_in))
     upper.auto.bins lower.auto.bins (λ u l. omega (arith, marks.ensures u l)) (λ u l. omega (arith, marks'.ensures u l)) upper.ensures lower.ensures

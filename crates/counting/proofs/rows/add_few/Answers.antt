@@ -10,18 +10,18 @@ use Rattle.counting.proofs.rows.add_few.Goals.{Start}
 use Rattle.counting.proofs.rows.add_few.Goals as goal
 
 -- a row of the bits
-row : (s : Start) (i : ℕ) → i < length s.args.bits.now → get_or s.args.bits.now i 0 * s.args.stride + s.args.stride ≤ length s.args.words.now
+row : (s : Start) (i : ℕ) → i < length s.args.bits.now → get_or s.args.bits.now i 0 * s.args.chunk.stride + s.args.chunk.stride ≤ length s.args.words.now
 row s i h = s.requires.rows_in i h
 
 -- where it begins
 abbrev first : Start → ℕ → ℕ
-first s i = get_or s.args.bits.now i 0 * s.args.stride + s.args.start
+first s i = get_or s.args.bits.now i 0 * s.args.chunk.stride + s.args.chunk.start
 
 -- as far as the chunk goes
 part_size : (s : Start) (i : ℕ) → i < length s.args.bits.now
-    → (first s i + (s.args.n + 63) / 64 ≤ length s.args.words.now) × (length (part_at s.args.words.now (first s i) ((s.args.n + 63) / 64)) ≡ (s.args.n + 63) / 64)
+    → (first s i + (s.args.chunk.lanes + 63) / 64 ≤ length s.args.words.now) × (length (part_at s.args.words.now (first s i) ((s.args.chunk.lanes + 63) / 64)) ≡ (s.args.chunk.lanes + 63) / 64)
 part_size s i h =
-    let fits : first s i + (s.args.n + 63) / 64 ≤ length s.args.words.now = omega (arith, row s i h, s.requires.lanes_in) in
+    let fits : first s i + (s.args.chunk.lanes + 63) / 64 ≤ length s.args.words.now = omega (arith, row s i h, s.requires.lanes_in) in
     (fits, simp (length-take, length-drop) (omega arith))
 
 power : (s : Start) (k : ℕ) → length s.args.bits.now ≡ k → length s.args.bins.now ≡ 2 ^ k
@@ -64,7 +64,7 @@ pub returns-then-bits-eq1 : goal.returns-then-bits-eq1
 returns-then-bits-eq1 c =
     let a = c.args in
     let one : length a.bits.now ≡ 1 = c.if-bits-eq1.true in
-    two_bins a.words.now a.stride a.start a.n a.bits.now 0 _ one refl (word_at a.acc.now) a.bins.now c.add_two.new.bins refl (power (goal.at.returns-then-bits-eq1 c).Start 1 one)
+    two_bins a.words.now a.chunk.stride a.chunk.start a.chunk.lanes a.bits.now 0 _ one refl (word_at a.acc.now) a.bins.now c.add_two.new.bins refl (power (goal.at.returns-then-bits-eq1 c).Start 1 one)
     c.add_two.ensures
 
 pub overflow_cast-high : goal.overflow_cast-high
@@ -122,5 +122,5 @@ returns c =
     let more = c.if-bits-eq1.false in
     let a = c.args in
     let k : length a.bits.now ≡ 2 = omega (arith, c.requires.in_bounds) in
-    four_bins a.words.now a.stride a.start a.n a.bits.now _ _ k refl refl (part_size (goal.at.returns c).Start 1 (omega arith)).0 (word_at a.acc.now) a.bins.now c.add_four.new.bins (power (goal.at.returns c).Start 2 k)
+    four_bins a.words.now a.chunk.stride a.chunk.start a.chunk.lanes a.bits.now _ _ k refl refl (part_size (goal.at.returns c).Start 1 (omega arith)).0 (word_at a.acc.now) a.bins.now c.add_four.new.bins (power (goal.at.returns c).Start 2 k)
     c.add_four.ensures.parted c.add_four.ensures.parted_2

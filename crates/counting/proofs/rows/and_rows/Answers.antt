@@ -1,6 +1,6 @@
 -- `rows::and_rows` meets its contract: the marks of the blocks that have the bits passed set.
 use Prim.Native.Nat.{ℕ, ◌+◌, ◌*◌, ◌/◌, ◌≤◌, ◌<◌}
-use mathlib.Core.Path.{◌≡◌, refl, ◌∙◌}
+use mathlib.Core.Path.{◌≡◌, refl, subst, ◌∙◌}
 use native.Mathlib.Decide.{dec_lt}
 use lib.Bits.{bit_and}
 use lib.ListN.{length, get_or, take, length-take, length-drop}
@@ -8,11 +8,11 @@ use lib.Seq.{take_all}
 use Rattle.counting.specs.Sample.{onward}
 use Rattle.counting.specs.Tally.{lane_of, word_at}
 use Rattle.counting.specs.Words.{stored_bit}
-use Rattle.counting.specs.Rows.{Paired}
+use Rattle.counting.specs.Rows.{Paired, Marks}
 use Rattle.counting.proofs.Marks.{part_at, stored_lt, and_lane, marks_none, marks_two}
 use native.Mathlib.Omega.{arith}
 use borrow.Author.Rules.{rules}
-use Rattle.counting.proofs.rows.and_rows.Goals.{After-with_next-j}
+use Rattle.counting.proofs.rows.and_rows.Goals.{After-with_next-j, After-and_two}
 use Rattle.counting.proofs.rows.and_rows.Goals as goal
 
 -- the two places that a turn looks at
@@ -48,10 +48,36 @@ part_size : (d : After-with_next-j) (i : ℕ) → i < length d.args.bits.now
     ≡ (d.args.chunk.lanes + 63) / 64
 part_size d i h = simp (length-take, length-drop) (omega (arith, row d i h, d.requires.chunk_in))
 
+-- a turn ANDs both
+more : (d : After-and_two)
+    → Marks (lane_of (word_at d.args.acc.now)) d.and_two.new.acc (onward (64 * d.args.chunk.start) (stored_bit d.args.chunk.stride d.args.words.now)) (take (d.loop-i.i + 2) d.args.bits.now) d.args.chunk.lanes
+more d =
+    let at = d.loop-i in
+    let a = d.args in
+    let acc' = d.and_two.new.acc in
+    let i = at.i in
+    let j = d.with_next-j.result in
+    let m = (a.chunk.lanes + 63) / 64 in
+    let b = get_or a.bits.now i 0 in
+    let b' = get_or a.bits.now j 0 in
+    let base = b * a.chunk.stride + a.chunk.start in
+    let base' = b' * a.chunk.stride + a.chunk.start in
+    let half : ℕ → ℕ = λ (t : ℕ). bit_and (get_or at.acc t 0) (get_or (part_at a.words.now base m) t 0) in
+    let one_long : length (part_at a.words.now base m) ≡ m = simp (length-take, length-drop) (omega (arith, d.requires.rows_in i d.loop-i-test.true, d.requires.chunk_in)) in
+    marks_two (lane_of (word_at a.acc.now)) at.acc acc' (onward (64 * a.chunk.start) (stored_bit a.chunk.stride a.words.now)) (λ e. stored_lt a.chunk.stride a.words.now (64 * a.chunk.start + e)) a.bits.now a.chunk.lanes
+    i j d.loop-i-test.true d.with_next-j.ensures
+    (λ e h.
+    omega (
+      arith,
+      and_lane a.words.now a.chunk.stride a.chunk.start b base m refl (word_at at.acc) half e (omega arith) refl,
+      and_lane a.words.now a.chunk.stride a.chunk.start b' base' m refl half (word_at acc') e (omega arith) (d.and_two.ensures (e / 64) (omega arith)),
+    ))
+    at.invariant.1
+
 pub loop-i-init : goal.loop-i-init
 loop-i-init c =
     let a = c.args in
-    (search rules, search rules, marks_none a.acc.now (onward (64 * a.chunk.start) (stored_bit a.chunk.stride a.words.now)) a.chunk.lanes)
+    (search rules, marks_none a.acc.now (onward (64 * a.chunk.start) (stored_bit a.chunk.stride a.words.now)) a.chunk.lanes)
 
 pub overflow_cast-at : goal.overflow_cast-at
 overflow_cast-at c = omega (arith, c.shared_slice_known-in-loop-i-1.given (one (goal.at.overflow_cast-at c).After-with_next-j))
@@ -99,36 +125,20 @@ pub and_two-requires : goal.and_two-requires
 and_two-requires c =
     let long = part_size (goal.at.and_two-requires c).After-with_next-j (one (goal.at.and_two-requires c).After-with_next-j) c.loop-i-test.true in
     let long' = part_size (goal.at.and_two-requires c).After-with_next-j (two (goal.at.and_two-requires c).After-with_next-j) (second (goal.at.and_two-requires c).After-with_next-j) in
-    (omega (arith, c.requires.chunk_in, c.loop-i.invariant.1), omega arith)
+    (omega (arith, c.requires.chunk_in, c.loop-i.invariant.0), omega arith)
 
 pub loop-i-preserved : goal.loop-i-preserved
-loop-i-preserved c =
-    let at = c.loop-i in
-    let a = c.args in
-    let acc' = c.and_two.new.acc in
-    let m = (a.chunk.lanes + 63) / 64 in
-    let b = get_or a.bits.now (one (goal.at.loop-i-preserved c).After-with_next-j) 0 in
-    let b' = get_or a.bits.now (two (goal.at.loop-i-preserved c).After-with_next-j) 0 in
-    let base = b * a.chunk.stride + a.chunk.start in
-    let base' = b' * a.chunk.stride + a.chunk.start in
-    let half : ℕ → ℕ = λ (t : ℕ). bit_and (get_or at.acc t 0) (get_or (part_at a.words.now base m) t 0) in
-    let long = part_size (goal.at.loop-i-preserved c).After-with_next-j (one (goal.at.loop-i-preserved c).After-with_next-j) c.loop-i-test.true in (
-      omega (arith, c.loop-i-test.true),
-      c.and_two.auto.acc ∙ at.invariant.1,
-      marks_two (lane_of (word_at a.acc.now)) at.acc acc' (onward (64 * a.chunk.start) (stored_bit a.chunk.stride a.words.now)) (λ e. stored_lt a.chunk.stride a.words.now (64 * a.chunk.start + e)) a.bits.now a.chunk.lanes
-          (one (goal.at.loop-i-preserved c).After-with_next-j) (two (goal.at.loop-i-preserved c).After-with_next-j) c.loop-i-test.true c.with_next-j.ensures
-          (λ e h.
-          omega (
-            arith,
-            and_lane a.words.now a.chunk.stride a.chunk.start b base m refl (word_at at.acc) half e (omega arith) refl,
-            and_lane a.words.now a.chunk.stride a.chunk.start b' base' m refl half (word_at acc') e (omega arith) (c.and_two.ensures (e / 64) (omega arith)),
-          ))
-          at.invariant.2,
-    )
+loop-i-preserved c = (c.and_two.auto.acc ∙ c.loop-i.invariant.0, more (goal.at.loop-i-preserved c).After-and_two)
 
 pub returns : goal.returns
 returns c =
     let a = c.args in
     let at = c.loop-i in
     let e : take at.i a.bits.now ≡ a.bits.now = take_all at.i a.bits.now (omega arith) in
-    rw e at at.invariant.2
+    rw e at at.invariant.1
+
+pub returns-2 : goal.returns-2
+returns-2 c =
+    let a = c.args in
+    let e : take (c.loop-i.i + 2) a.bits.now ≡ a.bits.now = take_all (c.loop-i.i + 2) a.bits.now (omega arith) in
+    subst (λ bits. Marks (lane_of (word_at a.acc.now)) c.and_two.new.acc (onward (64 * a.chunk.start) (stored_bit a.chunk.stride a.words.now)) bits a.chunk.lanes) e (more (goal.at.returns-2 c).After-and_two)

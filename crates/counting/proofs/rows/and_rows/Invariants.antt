@@ -1,5 +1,5 @@
 -- `rows::and_rows` meets its contract: the marks of the blocks that have the bits passed set.
-use Prim.Native.Nat.{◌+◌, ◌*◌, ◌≤◌, ◌-◌}
+use Prim.Native.Nat.{◌*◌, ◌-◌}
 use mathlib.Core.Path.{◌≡◌}
 use lib.ListN.{length, take}
 use Rattle.counting.specs.Sample.{onward}
@@ -10,7 +10,7 @@ use Rattle.counting.proofs.rows.and_rows.Given as goal
 
 abbrev pub invariant-loop-i : goal.invariant-loop-i
 invariant-loop-i l =
-    (l.i ≤ length l.bits + 1) × (length l.acc ≡ length l.initial.acc) × Marks (lane_of (word_at l.initial.acc)) l.acc (onward (64 * l.start) (stored_bit l.stride l.words)) (take l.i l.bits) l.n
+    (length l.acc ≡ length l.initial.acc) × Marks (lane_of (word_at l.initial.acc)) l.acc (onward (64 * l.start) (stored_bit l.stride l.words)) (take l.i l.bits) l.n
 
 abbrev pub decreases-loop-i : goal.decreases-loop-i
-decreases-loop-i l = length l.bits + 1 - l.i
+decreases-loop-i l = l.i-end - l.i

@@ -6,7 +6,7 @@ use Rattle.counting.proofs.rows.extend.Goals as goal
 
 pub extend_with-requires : goal.extend_with-requires
 extend_with-requires c =
-    let marks = c.few_marked-acc in
+    let marks = c.all_marked-acc in
     let short = leb-true c.args.chunk.lanes 4096 (sym c.is_short.ensures ∙ c.if-is_short.true) in
     record {
       mark_room = ((omega (arith, marks.ensures.value, short), omega (arith, marks.ensures.value)), marks.ensures.marked_from);
@@ -18,7 +18,7 @@ extend_with-requires c =
 
 pub extend_with-requires-else-is_short : goal.extend_with-requires-else-is_short
 extend_with-requires-else-is_short c =
-    let marks = c.all_marked-acc in
+    let marks = c.all_marked-acc-else-is_short in
     record {
       mark_room = ((omega (arith, marks.ensures.value, c.requires.chunk_in), omega (arith, marks.ensures.value)), marks.ensures.marked_from);
       rows_in = c.requires.rows_in;

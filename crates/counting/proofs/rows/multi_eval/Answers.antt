@@ -1,5 +1,5 @@
 -- `rows::multi_eval` meets its contract: the blocks of the chunks passed are counted.
-use Prim.Native.Nat.{ℕ, ◌+◌, ◌-◌, ◌^◌, ◌<◌}
+use Prim.Native.Nat.{ℕ, ◌+◌, ◌-◌, ◌*◌, ◌^◌, ◌<◌}
 use mathlib.Core.Path.{◌≡◌, refl, sym, ap, ap₂, ◌∙◌}
 use mathlib.Core.List.{List, [], ◌∷◌, ◌++◌}
 use lib.ListN.{length, get_or, get_or-replicate}
@@ -10,26 +10,39 @@ use Rattle.counting.specs.declared.chunk.Chunk.{Chunk}
 use Rattle.counting.proofs.Counts.{count_le}
 use Rattle.counting.proofs.Stretches.{span_before, chunk_in, chunk_more, chunk_room, span_none, span_all}
 use native.Mathlib.Omega.{arith}
-use Rattle.counting.proofs.rows.multi_eval.Goals.{At-loop-start}
+use Rattle.counting.proofs.rows.multi_eval.Invariants.{Extended}
+use Rattle.counting.proofs.rows.multi_eval.Goals.{At-loop-start, In-loop-start, After-extend}
 use Rattle.counting.proofs.rows.multi_eval.Goals as goal
 
 -- there are as many counts as at the start
 size : (d : At-loop-start) → length d.loop-start.counts ≡ length d.args.counts.now
-size d = d.loop-start.invariant.2 ∙ d.clear.auto.counts
+size d = d.loop-start.invariant.1 ∙ d.fill.ensures.len
+
+-- a turn begins before the end
+below : (d : In-loop-start) → 64 * d.loop-start.start < d.args.stretch.end
+below d = omega (arith, d.loop-start-test.true, d.div_ceil-start-end.ensures)
+
+-- and counts a chunk more
+more : (d : After-extend) → Extended (stretch_bit d.args.stretch d.args.words.now) (span_before d.args.stretch (d.loop-start.start + 512)) d.args.bits.now d.args.next d.extend.new.counts
+more d j h =
+    let a = d.args in
+    let at = d.loop-start in
+    let all = a.bits.now ++ ((a.next + j) ∷ []) in
+    let inside : j < length at.counts = omega (arith, d.extend.auto.counts) in
+    d.extend.ensures j inside
+    ∙ ap₂ (λ (y : ℕ) (q : Chunk). y + all_set (chunk_bit q a.words.now) (chunk_blocks q) all) (at.invariant.2 j inside) d.chunk_at.ensures
+    ∙ sym (chunk_more a.stretch d.requires.within at.start at.invariant.0 (omega (arith, d.loop-start-test.true, d.div_ceil-start-end.ensures)) a.words.now all _)
 
 pub loop-start-init : goal.loop-start-init
 unfolding count_in
 loop-start-init c =
-    let cleared = c.clear in
+    let cleared = c.fill in
     let a = c.args in
     let none = span_none a.stretch in
-    (omega arith, omega (arith, c.requires), refl, rw none (λ j h. ap (λ (l : List ℕ). get_or l j 0) cleared.ensures ∙ get_or-replicate (length a.counts.now) j 0 0 (omega (arith, cleared.auto.counts))))
-
-pub overflow_mul-start : goal.overflow_mul-start
-overflow_mul-start c = omega (arith, c.loop-start.invariant, c.requires)
+    (omega arith, refl, rw none (λ j h. ap (λ (l : List ℕ). get_or l j 0) (cleared.ensures.after (λ y e. e)) ∙ get_or-replicate (length a.counts.now) j 0 0 (omega (arith, cleared.ensures.len))))
 
 pub chunk_at-requires : goal.chunk_at-requires
-chunk_at-requires c = (c.requires.within, omega (arith, c.loop-start-test.true))
+chunk_at-requires c = (c.requires.within, omega (arith, below (goal.at.chunk_at-requires c).In-loop-start))
 
 pub extend-requires : goal.extend-requires
 extend-requires c =
@@ -37,33 +50,18 @@ extend-requires c =
     let x = a.stretch in
     let at = c.loop-start in
     let is = c.chunk_at.ensures in
-    let below = c.loop-start-test.true in
+    let before = below (goal.at.extend-requires c).In-loop-start in
     let e : length at.counts ≡ length a.counts.now = size (goal.at.extend-requires c).At-loop-start in
     rw is (record {
       rows_in = c.requires.rows_in;
-      chunk_in = chunk_in x c.requires.within at.start at.invariant.0 below;
+      chunk_in = chunk_in x c.requires.within at.start at.invariant.0 before;
       counts_bound = rw e c.requires.counts_bound;
-      count_room = chunk_room x c.requires.within at.start at.invariant.0 below at.counts
-          (λ j h. let all = a.bits.now ++ ((a.next + j) ∷ []) in omega (arith, at.invariant.3 j h, count_le (stretch_bit x a.words.now) (span_before x at.start) all (2 ^ length all - 1)));
+      count_room = chunk_room x c.requires.within at.start at.invariant.0 before at.counts
+          (λ j h. let all = a.bits.now ++ ((a.next + j) ∷ []) in omega (arith, at.invariant.2 j h, count_le (stretch_bit x a.words.now) (span_before x at.start) all (2 ^ length all - 1)));
     })
 
 pub loop-start-preserved : goal.loop-start-preserved
-loop-start-preserved c =
-    let call = c.extend in
-    let cut = c.chunk_at in
-    let at = c.loop-start in
-    let a = c.args in
-    let x = a.stretch in (
-      omega arith,
-      omega (arith, c.loop-start-test.true),
-      call.auto.counts ∙ at.invariant.2,
-      λ j h.
-          let all = a.bits.now ++ ((a.next + j) ∷ []) in
-          let inside : j < length at.counts = omega (arith, call.auto.counts) in
-          call.ensures j inside
-          ∙ ap₂ (λ (y : ℕ) (q : Chunk). y + all_set (chunk_bit q a.words.now) (chunk_blocks q) all) (at.invariant.3 j inside) cut.ensures
-          ∙ sym (chunk_more x c.requires.within at.start at.invariant.0 c.loop-start-test.true a.words.now all _),
-    )
+loop-start-preserved c = (omega arith, c.extend.auto.counts ∙ c.loop-start.invariant.1, more (goal.at.loop-start-preserved c).After-extend)
 
 pub shape_of-counts : goal.shape_of-counts
 shape_of-counts c = size (goal.at.shape_of-counts c).At-loop-start
@@ -73,5 +71,13 @@ returns c =
     let a = c.args in
     let x = a.stretch in
     λ j h.
-    c.loop-start.invariant.3 j (omega (arith, size (goal.at.returns c).At-loop-start))
-    ∙ ap (λ (m : ℕ). all_set (stretch_bit x a.words.now) m (a.bits.now ++ ((a.next + j) ∷ []))) (span_all x c.loop-start.start (omega (arith, c.loop-start-test.false)))
+    c.loop-start.invariant.2 j (omega (arith, size (goal.at.returns c).At-loop-start))
+    ∙ ap (λ (m : ℕ). all_set (stretch_bit x a.words.now) m (a.bits.now ++ ((a.next + j) ∷ []))) (span_all x c.loop-start.start (omega (arith, c.loop-start-test.false, c.div_ceil-start-end.ensures)))
+
+pub returns-2 : goal.returns-2
+returns-2 c =
+    let a = c.args in
+    let x = a.stretch in
+    λ j h.
+    more (goal.at.returns-2 c).After-extend j (omega (arith, c.extend.auto.counts, size (goal.at.returns-2 c).At-loop-start))
+    ∙ ap (λ (m : ℕ). all_set (stretch_bit x a.words.now) m (a.bits.now ++ ((a.next + j) ∷ []))) (span_all x (c.loop-start.start + 512) (omega (arith, c.div_ceil-start-end.ensures)))

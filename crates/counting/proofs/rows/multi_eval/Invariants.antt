@@ -1,5 +1,5 @@
 -- `rows::multi_eval` meets its contract: the blocks of the chunks passed are counted.
-use Prim.Native.Nat.{ℕ, ◌+◌, ◌-◌, ◌*◌, ◌≤◌, ◌<◌}
+use Prim.Native.Nat.{ℕ, ◌+◌, ◌-◌, ◌*◌, ◌<◌}
 use mathlib.Core.Path.{◌≡◌}
 use mathlib.Core.List.{List, [], ◌∷◌, ◌++◌}
 use lib.ListN.{length, get_or}
@@ -14,8 +14,8 @@ Extended bit n bits next counts = (j : ℕ) → j < length counts → get_or cou
 
 abbrev pub invariant-loop-start : goal.invariant-loop-start
 invariant-loop-start l =
-    (l.stretch.first < 64 * l.start + 64) × (64 * l.start ≤ l.stretch.end + 32768) × (length l.counts ≡ length l.initial.counts)
+    (l.stretch.first < 64 * l.start + 64) × (length l.counts ≡ length l.initial.counts)
     × Extended (stretch_bit l.stretch l.words) (span_before l.stretch l.start) l.bits l.next l.counts
 
 abbrev pub decreases-loop-start : goal.decreases-loop-start
-decreases-loop-start l = l.end - 64 * l.start
+decreases-loop-start l = l.start-end - l.start

@@ -12,7 +12,7 @@ chunk_at-requires c =
 
 pub count_bins-requires : goal.count_bins-requires
 count_bins-requires c =
-    let marks = c.few_marked-acc in
+    let marks = c.all_marked-acc in
     let x = c.args.stretch in
     let short = leb-true (chunk_at x (x.first / 64)).lanes 4096 (sym (c.is_short.ensures ∙ ap is_short c.chunk_at.ensures) ∙ c.if-is_short.true) in
     record {
@@ -24,7 +24,7 @@ count_bins-requires c =
 
 pub count_bins-requires-else-is_short : goal.count_bins-requires-else-is_short
 count_bins-requires-else-is_short c =
-    let marks = c.all_marked-acc in
+    let marks = c.all_marked-acc-else-is_short in
     record {
       mark_room = ((omega (arith, marks.ensures.value), omega (arith, marks.ensures.value)), marks.ensures.marked_from);
       in_bounds = c.requires.in_bounds;
