@@ -1,17 +1,66 @@
 -- The tests of a list of bits, entry by entry, and what they show together.
 use mathlib.Core.Path.{◌≡◌, refl, sym, ap, ◌∙◌}
-use Prim.Native.Nat.{ℕ, suc, ◌+◌, ◌≤◌, ◌<◌}
+use Prim.Native.Nat.{ℕ, zero, suc, ◌+◌, ◌≤◌, ◌<◌}
+use native.Mathlib.Nat.{suc-add}
 use native.Mathlib.Numerals.{add-one}
 use native.Mathlib.Omega.{arith}
-use mathlib.Core.Bool.{Bool, true, false}
+use mathlib.Core.Bool.{Bool, true, false, cond}
 use mathlib.Core.List.{List, [], ◌∷◌}
 use lib.Dec.{ltb}
 use lib.ListN.{length, drop, get_or, length-drop, drop_of_length-le}
 use lib.Seq.{drop-cons}
 use borrow.Author.Tests.{lt-ltb, le-ltb, ltb-true}
+use Rattle.std.specs.Prelude.{◌↔◌, IsTrue, All}
+use Rattle.std.specs.List.{AllAdjacentBelow, IsAllAdjacentAnswer}
+use Rattle.std.proofs.lemmas.List.Elements.{All-nil, All-cons, All-tail}
 use Rattle.counting.proofs.Accepted.{both}
 use Rattle.subsets.specs.Subsets.{Rising, Subset}
 use Rattle.subsets.specs.Bits.{increasing, within, bits_refusal}
+
+-- ---- increasing, by each bit and the next
+
+pairs_rise : (s : List ℕ) → AllAdjacentBelow (λ a b. true ≡ ltb a b) s (length s) → true ≡ increasing s
+unfolding increasing
+pairs_rise [] h = refl
+pairs_rise (a ∷ []) h = refl
+pairs_rise (a ∷ b ∷ s) h = rw (sym (h 0 0 (omega arith))) (pairs_rise (b ∷ s) (λ k d l. simp suc-add at (h (suc k) d (omega arith))))
+
+pair_falls : (s : List ℕ) (k : ℕ) → k + 1 < length s → ((d : ℕ) → false ≡ ltb (get_or s k d) (get_or s (k + 1) d)) → false ≡ increasing s
+unfolding increasing
+pair_falls [] k l h = absurd (omega arith)
+pair_falls (a ∷ []) k l h = absurd (omega arith)
+pair_falls (a ∷ b ∷ s) zero l h = rw (sym (h 0)) refl
+pair_falls (a ∷ b ∷ s) (suc k) l h = go (ltb a b) (pair_falls (b ∷ s) k (omega arith) (λ d. simp suc-add at (h d)))
+  where
+    go : (x : Bool) → false ≡ increasing (b ∷ s) → false ≡ cond x (increasing (b ∷ s)) false
+    go true e = e
+    go false e = refl
+
+pub increasing_by_pairs : (s : List ℕ) (r : Bool) → IsAllAdjacentAnswer (λ a b x. x ≡ ltb a b) s r → r ≡ increasing s
+increasing_by_pairs s true h = pairs_rise s h
+increasing_by_pairs s false h = pair_falls s h.0 h.1 h.2
+
+-- ---- within the block, bit by bit
+
+all_within : (B : ℕ) (s : List ℕ) → All (λ a. a < B) s → within B s ≡ true
+unfolding within
+all_within B [] h = refl
+all_within B (a ∷ s) h = rw (lt-ltb a B (h 0 0 (omega arith))) (all_within B s (All-tail (λ b. b < B) a s h))
+
+within_each : (B : ℕ) (s : List ℕ) → within B s ≡ true → All (λ a. a < B) s
+unfolding within
+within_each B [] h = All-nil (λ b. b < B)
+within_each B (a ∷ s) h =
+    let w = both (ltb a B) (within B s) h in
+    All-cons (λ b. b < B) a s (ltb-true a B w.0) (within_each B s w.1)
+
+pub within_by_each : (B : ℕ) (s : List ℕ) (r : Bool) → (IsTrue r ↔ All (λ a. a < B) s) → r ≡ within B s
+within_by_each B s r h = same_tests r (within B s) (λ e. all_within B s (h.0 e)) (λ e. h.1 (within_each B s e))
+  where
+    same_tests : (a b : Bool) → (a ≡ true → b ≡ true) → (b ≡ true → a ≡ true) → a ≡ b
+    same_tests true b f g = sym (f refl)
+    same_tests false true f g = g refl
+    same_tests false false f g = refl
 
 -- ---- increasing, from entry i on
 

@@ -6,44 +6,25 @@ ghost use Rattle.subsets.specs.Bits.{valid_width, increasing, within, bits_refus
 use counting::refusal::Refusal;
 
 // Whether k is 1 to 20.
+#[tactic(auto, unfolding(crate::specs::Bits::valid_width))]
 pub fn valid_width(k: usize) -> bool
     ensures { result ≡ valid_width k }
 {
-    if k < 1 {
-        return false;
-    }
-    if k > 20 {
-        return false;
-    }
-    true
+    (1..=20).contains(&k)
 }
 
 // Whether each bit is less than the one after it.
 pub fn increasing(bits: &[u32]) -> bool
     ensures { result ≡ increasing bits.now }
 {
-    let mut i: usize = 0;
-    while i + 1 < bits.len() {
-        if bits[i] >= bits[i + 1] {
-            return false;
-        }
-        i += 1;
-    }
-    true
+    bits.is_sorted_by(|a, b| *a < *b)
 }
 
 // Whether each bit is below the block size.
 pub fn within(bits: &[u32], block_size: usize) -> bool
     ensures { result ≡ within block_size bits.now }
 {
-    let mut i: usize = 0;
-    while i < bits.len() {
-        if bits[i] as usize >= block_size {
-            return false;
-        }
-        i += 1;
-    }
-    true
+    bits.iter().all(|&bit| (bit as usize) < block_size)
 }
 
 // BitsNotRising where the bits do not increase, else BitOutsideBlock where one is not in the block.
