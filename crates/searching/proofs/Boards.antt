@@ -24,10 +24,9 @@ use Rattle.subsets.specs.Best.{best_subset}
 use Rattle.subsets.specs.Subsets.{padded}
 use Rattle.searching.specs.Boards.{BoardsCounted, SameBytesFound, SamePiecesFound, SoleClaims}
 use Rattle.searching.specs.Claim.{Acquisition, SearchClaim}
-use Rattle.searching.specs.Finding.{winner_of, finding_of}
+use Rattle.searching.specs.Finding.{Searched, winner_of, finding_of}
 use Rattle.searching.specs.Refusal.{bottomup_refusal}
 use Rattle.searching.specs.Search.{BottomupSearch, store_after}
-use Rattle.searching.specs.declared.finding.Searched.{Searched}
 use Rattle.searching.proofs.Claiming.{acquired_valid, claims}
 use Rattle.searching.proofs.Refusing.{bottomup_free, said_is}
 use Rattle.searching.proofs.Stored.{store_agree}

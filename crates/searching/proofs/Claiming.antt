@@ -18,14 +18,12 @@ use Rattle.counting.specs.Words.{stored_bit}
 use Rattle.counting.proofs.Counts.{same_counts}
 use Rattle.sampling.specs.Boards.{Boards, Feed, boards_of, recording}
 use Rattle.sampling.specs.Earlier.{held_from, earlier_recording, earlier_started, earlier_answers}
-use Rattle.sampling.specs.Feeding.{fed_of}
+use Rattle.sampling.specs.Feeding.{Fed, fed_of}
 use Rattle.sampling.specs.Recorded.{State, started, carried_over, fed, fed_all, answers_from, sampler_of, HoldsRecording, Bytes}
-use Rattle.sampling.specs.Sampler.{started_of, each_short, sampler_refusal}
+use Rattle.sampling.specs.Sampler.{Started, started_of, each_short, sampler_refusal}
 use Rattle.sampling.specs.Stretch.{stretch_of, stretch_refusal}
-use Rattle.sampling.specs.declared.feeding.Fed.{Fed}
 use Rattle.sampling.specs.declared.sampler.Head.{Head}
 use Rattle.sampling.specs.declared.sampler.Sampler.{Sampler}
-use Rattle.sampling.specs.declared.sampler.Started.{Started}
 use Rattle.sampling.proofs.Carried.{all_recorded, all_carried}
 use Rattle.sampling.proofs.Keeping.{all_kept}
 use Rattle.sampling.proofs.Recorded.{fed_all_snoc, answers_snoc}
@@ -39,12 +37,11 @@ use Rattle.subsets.specs.Best.{Beats}
 use Rattle.subsets.specs.Subsets.{Subset, lex_lt, padded}
 use Rattle.subsets.proofs.Filling.{padded_front}
 use Rattle.subsets.proofs.Listing.{bits_below}
-use Rattle.searching.specs.Finding.{winner_of, finding_of, z_of}
+use Rattle.searching.specs.Finding.{Searched, winner_of, finding_of, z_of}
 use Rattle.searching.specs.Refusal.{or_else, width_refusal, buffer_refusal, search_refusal, bottomup_refusal}
 use Rattle.searching.specs.Search.{StretchSearch, BottomupSearch, store_after}
 use Rattle.searching.specs.Claim.{Acquisition, fresh, carried, next, Best, BestIn, SearchClaim, SearchRoom, Same, Claims}
 use Rattle.searching.specs.declared.finding.Finding.{Finding}
-use Rattle.searching.specs.declared.finding.Searched.{Searched}
 use Rattle.searching.proofs.Filled.{replaced_first, length_counts, length_order}
 use Rattle.searching.proofs.Refusing.{SearchFree, bottomup_free, said_is}
 use Rattle.searching.proofs.Stored.{store_agree}

@@ -18,12 +18,11 @@ use Rattle.sampling.proofs.Usable.{Usable, usable}
 use Rattle.layers.specs.Store.{store_suffices}
 use Rattle.subsets.specs.Bits.{valid_width}
 use Rattle.subsets.proofs.Refusing.{width_bounds}
-use Rattle.searching.specs.Finding.{marked, refused_with}
+use Rattle.searching.specs.Finding.{Searched, marked, refused_with}
 use Rattle.searching.specs.Refusal.{or_else, width_refusal, buffer_refusal, search_refusal, bottomup_refusal}
 use Rattle.searching.specs.Pass.{Searchable, Won}
 use Rattle.searching.specs.Search.{Search, StretchSearch, answer_of, store_after}
 use Rattle.searching.specs.declared.finding.Finding.{Finding}
-use Rattle.searching.specs.declared.finding.Searched.{Searched}
 
 -- ---- the first that applies
 

@@ -22,7 +22,7 @@ use Rattle.searching.specs.Claim.{Best}
 use Rattle.searching.specs.Refusal.{search_refusal, bottomup_refusal}
 use Rattle.searching.specs.Search.{answer_of, StretchSearch, BottomupSearch}
 use Rattle.searching.specs.Reversed.{BestReversed, unmarked, SameUnmarked, LowIsHighReversed}
-use Rattle.searching.specs.declared.finding.Searched.{Searched}
+use Rattle.searching.specs.Finding.{Searched}
 use Rattle.searching.proofs.Claiming.{stands, claims}
 
 -- what is carried over goes by the number of words alone

@@ -5,7 +5,7 @@ use Rattle.sampling.specs.Stretch.{stretch_of}
 use Rattle.sampling.specs.declared.sampler.Head.{Head}
 use Rattle.layers.specs.Store.{store_of, store_needed}
 use Rattle.searching.specs.Search.{BottomupSearch}
-use Rattle.searching.specs.declared.finding.Searched.{Searched}
+use Rattle.searching.specs.Finding.{Searched}
 
 -- Theorem: two searches that differ in the store alone, its length or its entries, answer the same and leave the same counts and order, refused or not.
 abbrev pub AnyStore : Type 0

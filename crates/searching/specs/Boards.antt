@@ -8,7 +8,7 @@ use Rattle.sampling.specs.Sampler.{blocks_of}
 use Rattle.sampling.specs.declared.sampler.Sampler.{Sampler}
 use Rattle.searching.specs.Claim.{Acquisition, SearchClaim, Same}
 use Rattle.searching.specs.Search.{BottomupSearch}
-use Rattle.searching.specs.declared.finding.Searched.{Searched}
+use Rattle.searching.specs.Finding.{Searched}
 
 -- Theorem: the counts that a search of all blocks leaves are, bin by bin, the sums over the four boards of the counts over each board's accepted bytes.
 abbrev pub BoardsCounted : Type 0

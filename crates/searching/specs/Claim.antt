@@ -5,23 +5,19 @@ use Rattle.counting.specs.Block.{valid_size}
 use Rattle.counting.specs.Recording.{blocks_in, recorded_bit}
 use Rattle.counting.specs.Sample.{onward, counts_of}
 use Rattle.sampling.specs.Boards.{Feed, recording, refusals_of}
-use Rattle.sampling.specs.Carrying.{carried_of, carried_words}
+use Rattle.sampling.specs.Carrying.{Carried, carried_of, carried_words}
 use Rattle.sampling.specs.Earlier.{earlier_recording, earlier_started, earlier_after, earlier_answers}
-use Rattle.sampling.specs.Feeding.{fed_of, fed_words}
+use Rattle.sampling.specs.Feeding.{Fed, fed_of, fed_words}
 use Rattle.sampling.specs.Recorded.{Bytes}
-use Rattle.sampling.specs.Sampler.{started_of, started_words}
-use Rattle.sampling.specs.declared.carrying.Carried.{Carried}
-use Rattle.sampling.specs.declared.feeding.Fed.{Fed}
+use Rattle.sampling.specs.Sampler.{Started, started_of, started_words}
 use Rattle.sampling.specs.declared.sampler.Sampler.{Sampler}
-use Rattle.sampling.specs.declared.sampler.Started.{Started}
 use Rattle.ranking.specs.Order.{order_of}
 use Rattle.ranking.specs.Ranking.{score_of}
 use Rattle.layers.specs.Store.{store_suffices}
 use Rattle.subsets.specs.Subsets.{Subset, lex_lt, padded}
-use Rattle.searching.specs.Finding.{z_of}
+use Rattle.searching.specs.Finding.{Searched, z_of}
 use Rattle.searching.specs.Search.{store_after, BottomupSearch}
 use Rattle.searching.specs.declared.finding.Finding.{Finding}
-use Rattle.searching.specs.declared.finding.Searched.{Searched}
 
 -- An acquisition: how a recording of blocks of B bits, in a bit order, came into the words ws. It begins with a start that is not refused; or, under the earlier
 -- rule, with a start and the pieces `old`, and a carry-over. Feeds follow, each given the sampler last returned and the words as they are then. It has what each

@@ -1,14 +1,15 @@
 -- The search of a sample: every k-subset is ranked by its counts, and the first with the greatest z is found.
-use Rattle.std.specs.Prelude.{◌≡◌, ℕ, ◌≤◌, Bool, false, List, Float, length, replicate}
+use Rattle.std.specs.Prelude.{◌≡◌, ℕ, ◌≤◌, Bool, false, List, Float, Result, Ok, Err, length, replicate}
 use Rattle.std.specs.Float.Ieee.{lt}
+use Rattle.counting.specs.Refusal.{number_of}
 use Rattle.counting.specs.Sample.{counts_of}
+use Rattle.counting.specs.declared.refusal.Refusal.{Refusal}
 use Rattle.ranking.specs.Ranking.{zero_score, score_of}
 use Rattle.ranking.specs.declared.ranking.Ranking.{Ranking}
 use Rattle.scoring.specs.Score.{Number}
 use Rattle.subsets.specs.Subsets.{numbers_from, padded}
 use Rattle.subsets.specs.Best.{Order, Optimal, best_subset}
 use Rattle.searching.specs.declared.finding.Finding.{Finding}
-use Rattle.searching.specs.declared.finding.Searched.{Searched}
 
 -- a subset's division and z, from its counts
 abbrev pub ranking_of : (ℕ → ℕ → ℕ) → ℕ → List ℕ → Ranking
@@ -63,5 +64,15 @@ marked low f =
 abbrev pub no_finding : Finding
 no_finding = record { block_size = 0; width = 0; bits = replicate 20 0; division = 0; z = zero_score; low_first = false }
 
+-- what a search answers: a refusal, 0 where there is none, and the finding
+pub record Searched : Type 0 where
+  pub refusal : ℕ
+  pub finding : Finding
+
 abbrev pub refused_with : ℕ → Searched
 refused_with r = record { refusal = r; finding = no_finding }
+
+-- .. as code answers it
+abbrev pub searched_of : Result Finding Refusal → Searched
+searched_of (Ok f) = record { refusal = 0; finding = f }
+searched_of (Err r) = refused_with (number_of r)

@@ -5,10 +5,9 @@ use Rattle.sampling.specs.Boards.{Feed}
 use Rattle.sampling.specs.Reversed.{reversed_pieces, reversed_feeds, mirrored}
 use Rattle.sampling.specs.declared.sampler.Sampler.{Sampler}
 use Rattle.searching.specs.Claim.{Acquisition, BestIn}
-use Rattle.searching.specs.Finding.{marked}
+use Rattle.searching.specs.Finding.{Searched, marked}
 use Rattle.searching.specs.Search.{BottomupSearch}
 use Rattle.searching.specs.declared.finding.Finding.{Finding}
-use Rattle.searching.specs.declared.finding.Searched.{Searched}
 
 -- Theorem: what is best in a recording with the low bit first is, but for the mark, best in the recording of its reversed bytes with the high bit first.
 abbrev pub BestReversed : Type 0

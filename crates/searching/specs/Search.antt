@@ -5,10 +5,9 @@ use Rattle.counting.specs.Stretch.{stretch_bit, span}
 use Rattle.sampling.specs.Stretch.{stretch_of}
 use Rattle.sampling.specs.declared.sampler.Head.{Head}
 use Rattle.ranking.specs.Order.{order_of}
-use Rattle.searching.specs.Finding.{winner_of, finding_of, refused_with}
+use Rattle.searching.specs.Finding.{Searched, winner_of, finding_of, refused_with}
 use Rattle.layers.specs.Store.{store_of, store_size, store_suffices}
 use Rattle.searching.specs.Refusal.{bottomup_refusal}
-use Rattle.searching.specs.declared.finding.Searched.{Searched}
 
 -- the winner of n blocks in a bit order, or the refusal r where that is not 0
 abbrev pub answer_of : ℕ → Bool → (ℕ → ℕ → ℕ) → ℕ → ℕ → ℕ → Searched

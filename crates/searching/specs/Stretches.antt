@@ -12,7 +12,7 @@ use Rattle.searching.specs.Refusal.{or_else, width_refusal, buffer_refusal, bott
 use Rattle.searching.specs.Search.{Search, StretchSearch}
 use Rattle.searching.specs.Claim.{Acquisition, BestIn, BestOf}
 use Rattle.searching.specs.declared.finding.Finding.{Finding}
-use Rattle.searching.specs.declared.finding.Searched.{Searched}
+use Rattle.searching.specs.Finding.{Searched}
 
 -- the sample of all blocks that the words hold
 abbrev pub sample_of : Head → List ℕ → ℕ → ℕ → ℕ

@@ -25,32 +25,16 @@ pub fn brute_force(
     ensures won { Won (stretch_bit stretch words.now) (span stretch) stretch.block_size k bins.old order.old result bins.new order.new }
     ensures store_after { store.new ≡ store_of (stretch_bit stretch words.now) (span stretch) stretch.block_size k ++ drop (store_size stretch.block_size k) store.old }
 {
+    // A block has at most 4,096 bits; where it has at most 256, to fill more would cost a search of few blocks as much as its counts.
     if stretch.block_size > 256 {
-        let mut run = no_run();
-        find_in_run(&mut run[..], words, stretch, k, store, bins, order)
+        find_in_run::<4537>(words, stretch, k, store, bins, order)
     } else {
-        let mut run = short_run();
-        find_in_run(&mut run[..], words, stretch, k, store, bins, order)
+        find_in_run::<697>(words, stretch, k, store, bins, order)
     }
 }
 
-// Room for the numbers of a run, with a count for each bit: a block has at most 4,096.
-fn no_run() -> [u32; 4537]
-    ensures { 4537 ≡ length result }
-{
-    [0; 4537]
-}
-
-// The same where it has at most 256: to fill more would cost a search of few blocks as much as its counts.
-fn short_run() -> [u32; 697]
-    ensures { 697 ≡ length result }
-{
-    [0; 697]
-}
-
-// The same with that room. What is left in run is free.
-fn find_in_run(
-    run: &mut [u32],
+// The same with room for the N numbers of a run, with a count for each bit.
+fn find_in_run<const N: usize>(
     words: &[u64],
     stretch: Stretch,
     k: usize,
@@ -58,13 +42,14 @@ fn find_in_run(
     bins: &mut [u32],
     order: &mut [u32],
 ) -> Finding
-    requires block_size_in_bounds { 441 + stretch.block_size ≤ length run.old }
+    requires block_size_in_bounds { (441 + stretch.block_size ≤ N) × (N ≤ 4537) }
     requires searchable { Searchable (length words.now) stretch k }
     requires roomy { Roomy stretch.block_size k (length store.old) }
     requires buffer_room { BufferRoom k bins.old order.old }
     ensures won { Won (stretch_bit stretch words.now) (span stretch) stretch.block_size k bins.old order.old result bins.new order.new }
     ensures store_after { store.new ≡ store_of (stretch_bit stretch words.now) (span stretch) stretch.block_size k ++ drop (store_size stretch.block_size k) store.old }
 {
-    fill_store(k, words, stretch, run, store);
-    find(words, stretch, k, store, run, bins, order)
+    let mut run = [0; N];
+    fill_store(k, words, stretch, &mut run, store);
+    find(words, stretch, k, store, &mut run, bins, order)
 }

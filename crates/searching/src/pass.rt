@@ -30,52 +30,9 @@ pub fn find(
     requires buffer_room { BufferRoom k bins.old order.old }
     ensures { Won (stretch_bit stretch words.now) (span stretch) stretch.block_size k bins.old order.old result bins.new order.new }
 {
-    let mut roots = no_roots();
-    let size = table_size(k);
-    find_with(
-        &mut roots[..size],
-        words,
-        stretch,
-        k,
-        store,
-        run,
-        bins,
-        order,
-    )
-}
-
-// Room for a table of roots.
-fn no_roots() -> [f64; 256]
-    ensures { 256 ≡ length result }
-{
-    [0.0; 256]
-}
-
-// How many roots are worked out once for all subsets: one for each division, as far as the table goes.
-fn table_size(k: usize) -> usize
-    ensures { result ≤ 256 }
-{
-    if k < 8 { 1 << k } else { 256 }
-}
-
-// The same with room for the roots. What is left in roots and run is free.
-fn find_with(
-    roots: &mut [f64],
-    words: &[u64],
-    stretch: Stretch,
-    k: usize,
-    store: &[u32],
-    run: &mut [u32],
-    bins: &mut [u32],
-    order: &mut [u32],
-) -> Finding
-    requires roots_len_bound { length roots.old ≤ 256 }
-    requires searchable { Searchable (length words.now) stretch k }
-    requires from_store { FromStore (stretch_bit stretch words.now) (span stretch) stretch.block_size k store.now }
-    requires space { Space stretch.block_size k store.now run.old }
-    requires buffer_room { BufferRoom k bins.old order.old }
-    ensures { Won (stretch_bit stretch words.now) (span stretch) stretch.block_size k bins.old order.old result bins.new order.new }
-{
+    let mut table = [0.0; 256];
+    // Worked out once for all subsets: a root for each division, as far as the table goes.
+    let roots = &mut table[..1 << k.min(8)];
     fill_roots(roots, span(stretch), k);
     let bits = pick(words, stretch, k, store, roots, run, bins, order);
     // The pass leaves the last candidate in the buffers.

@@ -1,15 +1,18 @@
 // The search, as a caller meets it: it refuses what it cannot search, and leaves everything as lent where it does.
 ghost use Rattle.std.specs.Prelude.{◌≡◌, ◌*◌, ◌<◌, length};
+ghost use Rattle.counting.specs.Refusal.{refusal_of};
 ghost use Rattle.counting.specs.Stretch.{span, stretch_bit};
 ghost use Rattle.layers.specs.Store.{store_suffices};
+ghost use Rattle.searching.specs.Finding.{searched_of};
 ghost use Rattle.searching.specs.Pass.{Searchable, BufferRoom, Won};
 ghost use Rattle.searching.specs.Refusal.{width_refusal, buffer_refusal, search_refusal, bottomup_refusal};
 ghost use Rattle.searching.specs.Search.{BottomupSearch, store_after};
 
 use crate::direct::brute_force_threads;
-use crate::finding::{Finding, Searched, marked, refused};
+use crate::finding::{Finding, marked};
 use crate::layered::brute_force;
 use counting::block::bin_count;
+use counting::refusal::Refusal;
 use counting::stretch::Stretch;
 use layers::size::store_suffices;
 use sampling::sampler::{Head, sampler_refusal};
@@ -28,19 +31,13 @@ pub fn bottomup(
     store: &mut [u32],
     bins: &mut [u32],
     order: &mut [u32],
-) -> Searched
-    ensures { BottomupSearch sampler words.now first end k store.old bins.old order.old result store.new bins.new order.new }
+) -> Result<Finding, Refusal>
+    ensures { BottomupSearch sampler words.now first end k store.old bins.old order.old (searched_of result) store.new bins.new order.new }
 {
-    let refusal = bottomup_refusal(sampler, words.len(), first, end, k, bins.len(), order.len());
-    if refusal != 0 {
-        return refused(refusal);
-    }
+    bottomup_refusal(sampler, words.len(), first, end, k, bins.len(), order.len())?;
     let stretch = stretch_of(sampler, words.len(), first, end);
     let finding = search_stretch(words, stretch, k, store, bins, order);
-    Searched {
-        refusal: 0,
-        finding: marked(finding, sampler.low_first),
-    }
+    Ok(marked(finding, sampler.low_first))
 }
 
 // The best k-subset of a stretch, in the way that the store allows.
@@ -63,7 +60,7 @@ fn search_stretch(
     brute_force_threads(words, stretch, k, bins, order)
 }
 
-// 4, 18, 2, 3, 7, or 0 where a search can be made.
+// Refusals 4, 18, 2, 3, 7 where no search can be made.
 fn bottomup_refusal(
     sampler: Head,
     words: usize,
@@ -72,57 +69,51 @@ fn bottomup_refusal(
     k: usize,
     bins: usize,
     order: usize,
-) -> u32
+) -> Result<(), Refusal>
     requires { 8 * words < 9223372036854775808 }
-    ensures { result ≡ bottomup_refusal sampler words first end k bins order }
+    ensures { refusal_of result ≡ bottomup_refusal sampler words first end k bins order }
 {
-    let refusal = search_refusal(sampler, words, first, end, k);
-    if refusal != 0 {
-        return refusal;
-    }
+    search_refusal(sampler, words, first, end, k)?;
     buffer_refusal(k, bins, order)
 }
 
-// 4, 18, 2, 3, or 0 where the sampler has these words and the blocks of the stretch, and the width fits its block.
-fn search_refusal(sampler: Head, words: usize, first: usize, end: usize, k: usize) -> u32
+// Refusals 4, 18, 2, 3 where the sampler has not these words or the blocks of the stretch, or the width does not fit its block.
+fn search_refusal(
+    sampler: Head,
+    words: usize,
+    first: usize,
+    end: usize,
+    k: usize,
+) -> Result<(), Refusal>
     requires { 8 * words < 9223372036854775808 }
-    ensures { result ≡ search_refusal sampler words first end k }
+    ensures { refusal_of result ≡ search_refusal sampler words first end k }
 {
-    let refusal = sampler_refusal(sampler, words);
-    if refusal != 0 {
-        return refusal;
-    }
-    let outside = stretch_refusal(sampler, first, end);
-    if outside != 0 {
-        return outside;
-    }
+    sampler_refusal(sampler, words)?;
+    stretch_refusal(sampler, first, end)?;
     width_refusal(sampler.block_size, k)
 }
 
-// 2, 3, or 0 where the width fits the block.
-pub fn width_refusal(block_size: usize, k: usize) -> u32
-    ensures { result ≡ width_refusal block_size k }
+// Refusals 2, 3 where the width does not fit the block.
+pub fn width_refusal(block_size: usize, k: usize) -> Result<(), Refusal>
+    ensures { refusal_of result ≡ width_refusal block_size k }
 {
     if !valid_width(k) {
-        return 2;
+        return Err(Refusal::Width);
     }
     if k > block_size {
-        return 3;
+        return Err(Refusal::WidthAboveBlock);
     }
-    0
+    Ok(())
 }
 
-// 7, or 0 where both buffers have 2 ^ k entries.
-pub fn buffer_refusal(k: usize, bins: usize, order: usize) -> u32
+// Refusal 7 where a buffer has fewer than 2 ^ k entries.
+pub fn buffer_refusal(k: usize, bins: usize, order: usize) -> Result<(), Refusal>
     requires { k < 21 }
-    ensures { result ≡ buffer_refusal k bins order }
+    ensures { refusal_of result ≡ buffer_refusal k bins order }
 {
     let m = bin_count(k);
-    if bins < m {
-        return 7;
+    if bins < m || order < m {
+        return Err(Refusal::Buffer);
     }
-    if order < m {
-        return 7;
-    }
-    0
+    Ok(())
 }

@@ -1,24 +1,26 @@
 -- `pass::walk` meets its contract: after each step the best so far beats every subset up to the current one.
 use mathlib.Core.Path.{◌≡◌}
 use Prim.Native.Nat.{◌-◌, ◌^◌}
-use lib.ListN.{length, take, drop}
+use lib.ListN.{length, take}
 use Rattle.counting.specs.Sample.{counts_of}
 use Rattle.counting.specs.Stretch.{span, stretch_bit}
 use Rattle.subsets.specs.Choose.{choose}
 use Rattle.subsets.specs.Rank.{rank_of}
-use Rattle.searching.specs.Pass.{Standing}
+use Rattle.searching.specs.Pass.{Standing, PastSame}
 use Rattle.searching.proofs.Walking.{Walked}
 use Rattle.searching.proofs.pass.walk.Given as goal
 
 -- of the current subset the run stands, and its counts are first in the bin buffer: a step needs both
 abbrev pub invariant-loop-stretch : goal.invariant-loop-stretch
-invariant-loop-stretch l =
-    Walked (stretch_bit l.stretch l.words) (span l.stretch) l.stretch.block_size l.k l.bits l.best l.z
-    × (length l.run ≡ length l.initial.run)
-    × (length l.bins ≡ length l.initial.bins) × (drop (2 ^ l.k) l.bins ≡ drop (2 ^ l.k) l.initial.bins)
-    × (length l.order ≡ length l.initial.order) × (drop (2 ^ l.k) l.order ≡ drop (2 ^ l.k) l.initial.order)
-    × Standing (stretch_bit l.stretch l.words) (span l.stretch) l.stretch.block_size l.store (take l.k l.bits) l.run
-    × (take (2 ^ l.k) l.bins ≡ counts_of (stretch_bit l.stretch l.words) (span l.stretch) (take l.k l.bits))
+invariant-loop-stretch l = record {
+  walked : Walked (stretch_bit l.stretch l.words) (span l.stretch) l.stretch.block_size l.k l.bits l.best l.z;
+  run_lent : length l.run ≡ length l.initial.run;
+  bins_lent : length l.bins ≡ length l.initial.bins;
+  order_lent : length l.order ≡ length l.initial.order;
+  past_same : PastSame l.k l.initial.bins l.initial.order l.bins l.order;
+  standing : Standing (stretch_bit l.stretch l.words) (span l.stretch) l.stretch.block_size l.store (take l.k l.bits) l.run;
+  counted : take (2 ^ l.k) l.bins ≡ counts_of (stretch_bit l.stretch l.words) (span l.stretch) (take l.k l.bits);
+}
 
 abbrev pub decreases-loop-stretch : goal.decreases-loop-stretch
 decreases-loop-stretch l =

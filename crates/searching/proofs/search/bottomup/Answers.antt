@@ -3,32 +3,34 @@ use mathlib.Core.Path.{◌≡◌, sym, ap, ◌∙◌}
 use native.Mathlib.Omega.{arith}
 use lib.ListN.{length}
 use Rattle.counting.proofs.Accepted.{valid_facts}
-use Rattle.searching.specs.Finding.{refused_with}
+use Rattle.counting.proofs.Reasons.{some_number}
+use Rattle.sampling.proofs.Refused.{passed_on}
+use Rattle.searching.specs.Finding.{refused_with, searched_of}
 use Rattle.searching.specs.Refusal.{bottomup_refusal}
 use Rattle.searching.proofs.Refusing.{BottomupFree, bottomup_free, searchable, search_refused, search_found, store_refused, store_left}
-use Rattle.searching.proofs.search.bottomup.Goals.{Else-refusal-ne0}
+use Rattle.searching.proofs.search.bottomup.Goals.{In_ok-bottomup_refusal}
 use Rattle.searching.proofs.search.bottomup.Goals as goal
 
 -- ---- past the refusals
 
-none : (e : Else-refusal-ne0) → let a = e.args in
+none : (e : In_ok-bottomup_refusal) → let a = e.args in
     bottomup_refusal a.sampler (length a.words.now) a.first a.end a.k (length a.bins.now) (length a.order.now) ≡ 0
-none e = sym e.bottomup_refusal-refusal.ensures ∙ e.if-refusal-ne0.false
+none e = sym e.in_ok-bottomup_refusal.ensures
 
-free : (e : Else-refusal-ne0) → let a = e.args in
+free : (e : In_ok-bottomup_refusal) → let a = e.args in
     BottomupFree a.sampler (length a.words.now) a.first a.end a.k (length a.bins.now) (length a.order.now)
 free e =
     let a = e.args in
     bottomup_free a.sampler (length a.words.now) a.first a.end a.k (length a.bins.now) (length a.order.now) (none e)
 
-pub returns-then-refusal-ne0 : goal.returns-then-refusal-ne0
-returns-then-refusal-ne0 c =
+pub returns-in_err-bottomup_refusal : goal.returns-in_err-bottomup_refusal
+returns-in_err-bottomup_refusal c =
     let a = c.args in
-    let is = c.bottomup_refusal-refusal.ensures in
+    let is = c.in_err-bottomup_refusal.ensures in
     record {
-      search = search_refused _ _ _ _ _ a.k a.bins.now a.order.now c.refused.result (λ z. c.if-refusal-ne0.true (is ∙ z))
-          (c.refused.ensures ∙ ap refused_with is);
-      stored = store_refused _ _ _ _ _ a.k a.store.now (λ z. c.if-refusal-ne0.true (is ∙ z));
+      search = search_refused _ _ _ _ _ a.k a.bins.now a.order.now _ (λ z. some_number _ (is ∙ z))
+          (ap searched_of (passed_on c.from_residual.result _ c.from_residual.ensures.1) ∙ ap refused_with is);
+      stored = store_refused _ _ _ _ _ a.k a.store.now (λ z. some_number _ (is ∙ z));
     }
 
 pub stretch_of-stretch-requires : goal.stretch_of-stretch-requires
@@ -38,9 +40,10 @@ pub search_stretch-finding-requires : goal.search_stretch-finding-requires
 search_stretch-finding-requires c =
     let x = c.stretch_of-stretch in
     let a = c.args in
+    let f = free (goal.at.search_stretch-finding-requires c).In_ok-bottomup_refusal in
     record {
-      searchable = searchable a.sampler (length a.words.now) a.first a.end a.k x.result x.ensures (free (goal.at.search_stretch-finding-requires c).Else-refusal-ne0).search;
-      buffer_room = (free (goal.at.search_stretch-finding-requires c).Else-refusal-ne0).room;
+      searchable = searchable a.sampler (length a.words.now) a.first a.end a.k x.result x.ensures f.search;
+      buffer_room = f.room;
     }
 
 pub returns : goal.returns
@@ -48,7 +51,8 @@ returns c =
     let x = c.stretch_of-stretch in
     let found = c.search_stretch-finding in
     let a = c.args in
+    let none = none (goal.at.returns c).In_ok-bottomup_refusal in
     record {
-      search = search_found _ a.sampler a.words.now a.first a.end a.k x.result a.bins.now a.order.now found.result c.marked.result _ _ x.ensures (none (goal.at.returns c).Else-refusal-ne0) found.ensures.won c.marked.ensures;
-      stored = store_left _ a.sampler a.words.now a.first a.end a.k x.result a.store.now _ x.ensures (none (goal.at.returns c).Else-refusal-ne0) found.ensures.store_after;
+      search = search_found _ a.sampler a.words.now a.first a.end a.k x.result a.bins.now a.order.now found.result c.marked.result _ _ x.ensures none found.ensures.won c.marked.ensures;
+      stored = store_left _ a.sampler a.words.now a.first a.end a.k x.result a.store.now _ x.ensures none found.ensures.store_after;
     }

@@ -1,33 +1,31 @@
 -- `search::search_refusal` meets its contract: the sampler's refusal before the stretch's, and that before the width's.
-use mathlib.Core.Path.{◌≡◌, sym, ◌∙◌}
+use mathlib.Core.Path.{◌≡◌, sym, ap, ◌∙◌}
+use Rattle.counting.specs.Refusal.{refusal_of}
+use Rattle.counting.proofs.Reasons.{some_number}
 use Rattle.sampling.specs.Sampler.{sampler_refusal}
-use Rattle.sampling.specs.Stretch.{stretch_refusal}
-use Rattle.searching.specs.Refusal.{or_else, width_refusal, search_refusal}
+use Rattle.sampling.proofs.Refused.{passed_on}
+use Rattle.searching.specs.Refusal.{search_refusal}
 use Rattle.searching.proofs.Refusing.{or_first, or_next}
-use Rattle.searching.proofs.search.search_refusal.Goals.{Else-refusal-ne0}
+use Rattle.searching.proofs.search.search_refusal.Goals.{In_ok-sampler_refusal}
 use Rattle.searching.proofs.search.search_refusal.Goals as goal
 
-none : (e : Else-refusal-ne0) → let a = e.args in sampler_refusal a.sampler a.words ≡ 0
-none e = sym e.sampler_refusal-refusal.ensures ∙ e.if-refusal-ne0.false
+none : (e : In_ok-sampler_refusal) → sampler_refusal e.args.sampler e.args.words ≡ 0
+none e = sym e.in_ok-sampler_refusal.ensures
 
-pub returns-then-refusal-ne0 : goal.returns-then-refusal-ne0
+pub returns-in_err-sampler_refusal : goal.returns-in_err-sampler_refusal
 unfolding search_refusal
-returns-then-refusal-ne0 c =
-    let a = c.args in
-    let is = c.sampler_refusal-refusal.ensures in
-    is
-    ∙ or_first (sampler_refusal a.sampler a.words) (or_else (stretch_refusal a.sampler a.first a.end) (width_refusal a.sampler.block_size a.k))
-    (λ z. c.if-refusal-ne0.true (is ∙ z))
+returns-in_err-sampler_refusal c =
+    let is = c.in_err-sampler_refusal.ensures in
+    ap refusal_of (passed_on c.from_residual.result _ c.from_residual.ensures.1) ∙ is ∙ or_first _ _ (λ z. some_number _ (is ∙ z))
 
-pub returns-then-outside-ne0 : goal.returns-then-outside-ne0
+pub returns-in_err-stretch_refusal : goal.returns-in_err-stretch_refusal
 unfolding search_refusal
-returns-then-outside-ne0 c =
-    let a = c.args in
-    let is = c.stretch_refusal-outside.ensures in
-    is ∙ or_first (stretch_refusal a.sampler a.first a.end) (width_refusal a.sampler.block_size a.k) (λ z. c.if-outside-ne0.true (is ∙ z))
-    ∙ or_next _ _ (none (goal.at.returns-then-outside-ne0 c).Else-refusal-ne0)
+returns-in_err-stretch_refusal c =
+    let is = c.in_err-stretch_refusal.ensures in
+    ap refusal_of (passed_on c.from_residual-in_err-stretch_refusal.result _ c.from_residual-in_err-stretch_refusal.ensures.1) ∙ is ∙ or_first _ _ (λ z. some_number _ (is ∙ z))
+    ∙ or_next _ _ (none (goal.at.returns-in_err-stretch_refusal c).In_ok-sampler_refusal)
 
 pub returns : goal.returns
 unfolding search_refusal
 returns c =
-    c.width_refusal.ensures ∙ or_next _ _ (sym c.stretch_refusal-outside.ensures ∙ c.if-outside-ne0.false) ∙ or_next _ _ (none (goal.at.returns c).Else-refusal-ne0)
+    c.width_refusal.ensures ∙ or_next _ _ (sym c.in_ok-stretch_refusal.ensures) ∙ or_next _ _ (none (goal.at.returns c).In_ok-sampler_refusal)
