@@ -1,11 +1,12 @@
 -- What a feed that is not refused does, as code does it: the piece is kept where it completes no block, and else its blocks are put in and what is past them is kept.
 use mathlib.Core.Path.{◌≡◌, refl, sym, ap, ap₂, ◌∙◌}
-use mathlib.Core.List.{List, ◌++◌, append-nil}
+use mathlib.Core.List.{List, ◌++◌, append_assoc, append-nil}
 use Prim.Native.Nat.{ℕ, ◌+◌, ◌-◌, ◌*◌, ◌/◌, ◌≤◌, ◌<◌}
 use native.Mathlib.Omega.{arith}
 use native.Mathlib.Nat.{add-mul, mul-le-mul_right}
 use lib.ListN.{length, take, drop, replicate, length-append, length-drop, take-append-drop}
-use lib.Seq.{take-add, length-take-le}
+use lib.Seq.{take-add, drop-drop, length-take-le}
+use borrow.Rule.Slice.PartMut.{put_mid}
 use Rattle.counting.specs.Buffer.{put}
 use Rattle.counting.specs.Recording.{block_bytes, stride, blocks_in}
 use Rattle.counting.proofs.Accepted.{Valid, valid_facts}
@@ -18,6 +19,12 @@ use Rattle.sampling.specs.declared.sampler.Head.{Head}
 use Rattle.sampling.proofs.Cutting.{rest_short, none_whole, none_rest, some_whole, some_rest, used_within}
 use Rattle.sampling.proofs.Filling.{put_both, put_no_bytes}
 use Rattle.sampling.proofs.Usable.{Accepted, accepted, room_words, room_lanes}
+
+-- what is written to a part of a slice is put at its place
+pub put_part : (u : List ℕ) (at k : ℕ) (part s : List ℕ) → part ≡ s → length s ≡ k → put_mid at k u part ≡ put u at s
+unfolding put
+put_part u at k part s e many =
+    (λ i. put_mid at (sym many i) u (e i)) ∙ ap (λ (r : List ℕ). take at u ++ (s ++ r)) (drop-drop (length s) at u) ∙ sym (append_assoc (take at u) s (drop (at + length s) u))
 
 -- what stands in a buffer, put there again, changes nothing
 put_again : (u : List ℕ) (at t : ℕ) → at + t ≤ length u → put u at (take t (drop at u)) ≡ u

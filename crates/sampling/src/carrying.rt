@@ -73,10 +73,8 @@ fn read_bytes(words: &[u64], stride: usize, e: usize, low_first: bool, to: &mut 
     requires { BlockIn stride (length words.now) e (8 * length to.old) }
     ensures { to.new ≡ list_of (length to.old) (stored_byte low_first stride words.now e) }
 {
-    let mut j: usize = 0;
-    while j < to.len() {
-        to[j] = stored_byte(words, stride, e, j, low_first);
-        j += 1;
+    for (j, byte) in to.iter_mut().enumerate() {
+        *byte = stored_byte(words, stride, e, j, low_first);
     }
 }
 
@@ -86,9 +84,7 @@ fn stored_byte(words: &[u64], stride: usize, e: usize, j: usize, low_first: bool
     ensures { result ≡ stored_byte low_first stride words.now e j }
 {
     let mut x: u8 = 0;
-    let mut i: usize = 8;
-    while 0 < i {
-        i -= 1;
+    for i in (0..8).rev() {
         x = 2 * x + stored_bit(words, stride, e, 8 * j + place_in(low_first, i));
     }
     x
@@ -107,10 +103,8 @@ fn clear_bits(words: &mut [u64], stride: usize, e: usize, m: usize)
     requires { BlockIn stride (length words.old) e m }
     ensures { words.new ≡ clear_bits stride words.old e m }
 {
-    let mut b: usize = 0;
-    while b < m {
+    for b in 0..m {
         clear_bit(words, b * stride + e / 64, e % 64);
-        b += 1;
     }
 }
 
@@ -121,5 +115,5 @@ fn clear_bit(words: &mut [u64], i: usize, k: usize)
     ensures { words.new ≡ clear_bit words.old i k }
 {
     let v = (words[i] >> k) % 2;
-    words[i] = words[i] ^ (v << k);
+    words[i] ^= v << k;
 }

@@ -188,11 +188,7 @@ pub fn write_bytes(unfinished: &mut [u8], at: usize, bytes: &[u8])
     requires { at + length bytes.now ≤ length unfinished.old }
     ensures { unfinished.new ≡ put unfinished.old at bytes.now }
 {
-    let mut i: usize = 0;
-    while i < bytes.len() {
-        unfinished[at + i] = bytes[i];
-        i += 1;
-    }
+    unfinished[at..at + bytes.len()].copy_from_slice(bytes);
 }
 
 // Writes 0 from a place to before an end.
@@ -200,9 +196,7 @@ fn wipe(unfinished: &mut [u8], from: usize, end: usize)
     requires { end ≤ length unfinished.old }
     ensures { unfinished.new ≡ put unfinished.old from (replicate (end - from) 0) }
 {
-    let mut i = from;
-    while i < end {
-        unfinished[i] = 0;
-        i += 1;
+    if from < end {
+        unfinished[from..end].fill(0);
     }
 }

@@ -27,19 +27,17 @@ pub fn put_bytes(
     ensures { words.new ≡ put_bytes low_first size stride words.old (from.block * size + from.byte) bytes.now (length bytes.now) }
 {
     let mut place = from;
-    let mut n = 0;
-    while n < bytes.len() {
+    for x in bytes {
         let e = place.block;
         put_byte(
             words,
             8 * place.byte * stride + e / 64,
             stride,
             e % 64,
-            bytes[n],
+            *x,
             low_first,
         );
         place = next_place(place, size);
-        n += 1;
     }
 }
 
@@ -68,13 +66,9 @@ fn put_byte(words: &mut [u64], at: usize, stride: usize, k: usize, x: u8, low_fi
     requires k_bound { k < 64 }
     ensures { words.new ≡ put_bits low_first stride words.old at k x 8 }
 {
-    let mut i = at;
-    let mut r: usize = 0;
-    while r < 8 {
+    for r in 0..8 {
         let v = (x >> place_in(low_first, r)) % 2;
-        put_bit(words, i, k, v as u64);
-        i += stride;
-        r += 1;
+        put_bit(words, at + r * stride, k, v as u64);
     }
 }
 
@@ -85,5 +79,5 @@ fn put_bit(words: &mut [u64], i: usize, k: usize, v: u64)
     requires v_bound { v < 2 }
     ensures { words.new ≡ put_bit words.old i k v }
 {
-    words[i] = words[i] | (v << k);
+    words[i] |= v << k;
 }

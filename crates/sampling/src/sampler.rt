@@ -33,7 +33,7 @@ pub fn start(block_size: usize, low_first: bool, words: &mut [u64]) -> Result<Sa
     if !valid_block_size(block_size) {
         return Err(Refusal::BlockSize);
     }
-    clear(words);
+    words.fill(0);
     let unfinished = no_bytes();
     Ok(Sampler {
         head: Head {
@@ -122,11 +122,7 @@ pub fn capacity_blocks(block_size: usize, words: usize) -> usize
     requires words_bound { 8 * words < 9223372036854775808 }
     ensures { (result ≡ capacity block_size words) × (result ≤ 16777216) }
 {
-    let all = 64 * (words / block_size);
-    if all < 16777216 {
-        return all;
-    }
-    16777216
+    (64 * (words / block_size)).min(16777216)
 }
 
 // How many bytes the words can hold at a valid block size.
@@ -137,14 +133,4 @@ pub fn capacity_bytes(block_size: usize, words: usize) -> usize
     ensures { (result ≡ capacity_bytes block_size words) × (result ≤ 8589934592) }
 {
     capacity_blocks(block_size, words) * (block_size / 8)
-}
-
-fn clear(words: &mut [u64])
-    ensures { words.new ≡ replicate (length words.old) 0 }
-{
-    let mut i = 0;
-    while i < words.len() {
-        words[i] = 0;
-        i += 1;
-    }
 }

@@ -1,11 +1,10 @@
 -- `carrying::read_bytes` meets its contract: after j turns the first j bytes stand in front.
-use mathlib.Core.Path.{◌≡◌, refl, sym, ap, ◌∙◌}
+use mathlib.Core.Path.{◌≡◌, sym, ap, ◌∙◌}
 use mathlib.Core.List.{List, [], ◌∷◌, ◌++◌, append-nil}
-use Prim.Native.Nat.{ℕ, ◌+◌, ◌*◌, ◌≤◌, ◌<◌, zero-le}
-use native.Mathlib.Nat.{le_trans, mul-le-mul_right}
+use Prim.Native.Nat.{ℕ, ◌+◌, ◌<◌}
 use native.Mathlib.Numerals.{add-one}
 use native.Mathlib.Omega.{arith}
-use lib.ListN.{length, drop, set, length-set}
+use lib.ListN.{length, drop, set}
 use lib.Seq.{drop-length}
 use Rattle.counting.specs.Buffer.{put}
 use Rattle.counting.specs.Sample.{list_of}
@@ -20,22 +19,7 @@ listed_more f j = rw add-one
 
 pub loop-j-init : goal.loop-j-init
 unfolding list_of
-loop-j-init c = (zero-le, sym (put_none c.args.to.now 0), refl)
-
-pub stored_byte-requires : goal.stored_byte-requires
-stored_byte-requires c =
-    let a = c.args in
-    let near : 8 * c.loop-j.j + 8 ≤ 8 * length a.to.now = omega arith in
-    (le_trans (mul-le-mul_right a.stride near) c.requires.0, λ h. c.requires.1 (omega arith))
-
-pub bounds-to-j : goal.bounds-to-j
-bounds-to-j c = omega arith
-
-pub overflow_add-j : goal.overflow_add-j
-overflow_add-j c = omega arith
-
-pub loop-j-smaller : goal.loop-j-smaller
-loop-j-smaller c = omega arith
+loop-j-init c = sym (put_none c.args.to.now 0)
 
 pub loop-j-preserved : goal.loop-j-preserved
 loop-j-preserved c =
@@ -43,15 +27,8 @@ loop-j-preserved c =
     let j = c.loop-j.j in
     let f = stored_byte a.low_first a.stride a.words.now a.e in
     let room : j < length a.to.now = omega arith in
-    let at : 0 + length (list_of j f) ≡ j = rw length_list (omega arith) in (
-      omega arith,
-      (λ i. set (c.loop-j.invariant.1 i) j (c.stored_byte.ensures i)) ∙ put_more a.to.now 0 (list_of j f) (f j) j at room
-          ∙ ap (put a.to.now 0) (sym (listed_more f j)),
-      simp length-set c.loop-j.invariant.2,
-    )
-
-pub shape_of-to : goal.shape_of-to
-shape_of-to c = c.loop-j.invariant.2
+    let at : 0 + length (list_of j f) ≡ j = rw length_list (omega arith) in
+    (λ i. set (c.loop-j.invariant i) j (c.stored_byte.ensures i)) ∙ put_more a.to.now 0 (list_of j f) (f j) j at room ∙ ap (put a.to.now 0) (sym (listed_more f j))
 
 pub returns : goal.returns
 returns c =
@@ -59,6 +36,6 @@ returns c =
     let to = a.to.now in
     let f = stored_byte a.low_first a.stride a.words.now a.e in
     let past : c.loop-j.j ≡ length to = omega arith in
-    c.loop-j.invariant.1 ∙ ap (λ (j : ℕ). put to 0 (list_of j f)) past ∙ put_first to (list_of (length to) f)
+    c.loop-j.invariant ∙ ap (λ (j : ℕ). put to 0 (list_of j f)) past ∙ put_first to (list_of (length to) f)
     ∙ ap (λ (k : ℕ). list_of (length to) f ++ drop k to) (length_list (length to) f)
     ∙ ap (λ (l : List ℕ). list_of (length to) f ++ l) (drop-length to) ∙ append-nil (list_of (length to) f)

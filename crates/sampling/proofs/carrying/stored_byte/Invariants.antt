@@ -1,6 +1,6 @@
 -- `carrying::stored_byte` meets its contract: from the highest bit down, x is the number that the bits passed make.
 use mathlib.Core.Path.{◌≡◌}
-use Prim.Native.Nat.{◌+◌, ◌*◌, ◌≤◌}
+use Prim.Native.Nat.{◌+◌, ◌*◌}
 use lib.ListN.{drop}
 use Rattle.counting.specs.Block.{place_in, bin_of}
 use Rattle.counting.specs.Words.{stored_bit}
@@ -8,7 +8,4 @@ use Rattle.sampling.proofs.Lifting.{eight}
 use Rattle.sampling.proofs.carrying.stored_byte.Given as goal
 
 abbrev pub invariant-loop-i : goal.invariant-loop-i
-invariant-loop-i l = (l.i ≤ 8) × (l.x ≡ bin_of (λ r. stored_bit l.stride l.words l.e (8 * l.j + place_in l.low_first r)) (drop l.i eight))
-
-abbrev pub decreases-loop-i : goal.decreases-loop-i
-decreases-loop-i l = l.i
+invariant-loop-i l = l.x ≡ bin_of (λ r. stored_bit l.stride l.words l.e (8 * l.j + place_in l.low_first r)) (drop l.i eight)

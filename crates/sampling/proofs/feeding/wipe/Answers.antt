@@ -1,48 +1,23 @@
--- `feeding::wipe` meets its contract: what was passed is 0.
-use mathlib.Core.Path.{◌≡◌, refl, sym, ap, ◌∙◌}
-use mathlib.Core.List.{List}
-use Prim.Native.Nat.{ℕ, ◌+◌, ◌-◌, ◌<◌}
+-- `feeding::wipe` meets its contract: the part that is filled is put at its place, and where there is none nothing changes.
+use mathlib.Core.Path.{◌≡◌, sym, ap, ◌∙◌}
+use Prim.Native.Nat.{ℕ, ◌-◌}
 use native.Mathlib.Omega.{arith}
-use lib.ListN.{length, set, replicate, length-set, length-replicate, replicate-append-replicate}
+use lib.ListN.{length, take, drop, replicate, length-drop, length-replicate}
+use lib.Seq.{length-take-le}
 use Rattle.counting.specs.Buffer.{put}
-use Rattle.counting.proofs.Buffers.{put_none, put_more}
+use Rattle.counting.proofs.Buffers.{put_none}
+use Rattle.sampling.proofs.Taking.{put_part}
 use Rattle.sampling.proofs.feeding.wipe.Goals as goal
 
-none_yet : (u : List ℕ) (from m : ℕ) → m ≡ 0 → u ≡ put u from (replicate m 0)
-none_yet u from m e = sym (ap (λ (k : ℕ). put u from (replicate k 0)) e ∙ put_none u from)
-
-pub loop-i-init : goal.loop-i-init
-loop-i-init c = (omega arith, omega arith, none_yet c.args.unfinished.now c.args.from (c.args.from - c.args.from) (omega arith), refl)
-
-pub bounds-unfinished-i : goal.bounds-unfinished-i
-bounds-unfinished-i c = omega (arith, c.requires, c.loop-i.invariant.3)
-
-pub overflow_add-i : goal.overflow_add-i
-overflow_add-i c = omega arith
-
-pub loop-i-smaller : goal.loop-i-smaller
-loop-i-smaller c = omega arith
-
-pub loop-i-preserved : goal.loop-i-preserved
-loop-i-preserved c =
+pub returns-then-from-end : goal.returns-then-from-end
+returns-then-from-end c =
     let a = c.args in
-    let i = c.loop-i.i in
-    let m = i - a.from in
-    let room : i < length a.unfinished.now = omega (arith, c.requires) in
-    let at : a.from + length (replicate {A = ℕ} m 0) ≡ i = rw length-replicate (omega arith) in
-    let next : m + 1 ≡ i + 1 - a.from = omega arith in (
-      omega arith,
-      omega arith,
-      ap (λ (u : List ℕ). set u i 0) c.loop-i.invariant.2 ∙ put_more a.unfinished.now a.from (replicate m 0) 0 i at room
-          ∙ ap (put a.unfinished.now a.from) (replicate-append-replicate m 1 0 ∙ ap (λ (k : ℕ). replicate k 0) next),
-      simp length-set c.loop-i.invariant.3,
-    )
+    let n = a.end - a.from in
+    let room : length (take n (drop a.from a.unfinished.now)) ≡ n = length-take-le n (drop a.from a.unfinished.now) (rw length-drop (omega (arith, c.requires))) in
+    put_part a.unfinished.now a.from n c.fill.new.self (replicate n 0) (c.fill.ensures.after (λ y e. e) ∙ ap (λ (k : ℕ). replicate k 0) room) (length-replicate n 0)
 
-pub shape_of-unfinished : goal.shape_of-unfinished
-shape_of-unfinished c = c.loop-i.invariant.3
-
-pub returns : goal.returns
-returns c =
+pub returns-else-from-end : goal.returns-else-from-end
+returns-else-from-end c =
     let a = c.args in
-    let past : c.loop-i.i - a.from ≡ a.end - a.from = omega arith in
-    c.loop-i.invariant.2 ∙ ap (λ (k : ℕ). put a.unfinished.now a.from (replicate k 0)) past
+    let none : 0 ≡ a.end - a.from = omega arith in
+    sym (put_none a.unfinished.now a.from) ∙ ap (λ (k : ℕ). put a.unfinished.now a.from (replicate k 0)) none

@@ -1,12 +1,7 @@
 -- `putting::put_byte` meets its contract: after r turns the words are those with r bits put in.
 use mathlib.Core.Path.{◌≡◌}
-use Prim.Native.Nat.{◌+◌, ◌-◌, ◌*◌, ◌≤◌}
-use lib.ListN.{length}
 use Rattle.sampling.specs.Putting.{put_bits}
 use Rattle.sampling.proofs.putting.put_byte.Given as goal
 
 abbrev pub invariant-loop-r : goal.invariant-loop-r
-invariant-loop-r l = (l.r ≤ 8) × (l.i ≡ l.at + l.r * l.stride) × (l.words ≡ put_bits l.low_first l.stride l.initial.words l.at l.k l.x l.r) × (length l.words ≡ length l.initial.words)
-
-abbrev pub decreases-loop-r : goal.decreases-loop-r
-decreases-loop-r l = 8 - l.r
+invariant-loop-r l = l.words ≡ put_bits l.low_first l.stride l.initial.words l.at l.k l.x l.r

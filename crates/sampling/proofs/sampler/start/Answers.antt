@@ -18,7 +18,7 @@ unfolding started_of started_words
 returns c =
     let a = c.args in
     let good : valid_size a.block_size ≡ true = sym c.valid_block_size.ensures ∙ c.if-not-valid_block_size.false in
-    let same : length c.clear.new.words ≡ length a.words.now = c.clear.auto.words in
+    let same : length c.fill.new.self ≡ length a.words.now = c.fill.ensures.len in
     record {
       value = simp good (λ i. record {
         refusal = 0;
@@ -33,5 +33,5 @@ returns c =
           unfinished = c.no_bytes-unfinished.ensures i;
         };
       });
-      words_after = simp good c.clear.ensures;
+      words_after = simp good (c.fill.ensures.after (λ y e. e));
     }
