@@ -24,10 +24,8 @@ pub fn fill_roots(roots: &mut [f64], n: u32, k: usize)
     requires { (k ≤ 20) × (length roots.old ≤ 2 ^ 32) }
     ensures { Roots n k roots.new }
 {
-    let mut i = 1;
-    while i < roots.len() {
+    for i in 1..roots.len() {
         roots[i] = deviation(n, share(i as u32, k));
-        i += 1;
     }
 }
 
@@ -81,16 +79,10 @@ fn divide(bins: &[u32], order: &[u32], n: u32, k: usize, roots: &[f64]) -> Ranki
         z: 0.0,
     };
     let mut c: u32 = 0;
-    let mut i: usize = 0;
-    while i + 1 < bins.len() {
-        let division = i + 1;
-        c += count_at(bins, order, i);
-        best = better(
-            best,
-            division as u32,
-            size_at(roots, n, c, division as u32, k, half),
-        );
-        i = division;
+    for i in 1..bins.len() {
+        let division = i as u32;
+        c += count_at(bins, order, i - 1);
+        best = better(best, division, size_at(roots, n, c, division, k, half));
     }
     best
 }
