@@ -1,5 +1,5 @@
 -- The refusals of a check: what none of them tells of a finding and its order, and the scratch where there is one and where there is none.
-use mathlib.Core.Path.{◌≡◌, refl}
+use mathlib.Core.Path.{◌≡◌, refl, ap, ◌∙◌}
 use mathlib.Core.Bool.{true, cond}
 use mathlib.Core.List.{List}
 use Prim.Native.Nat.{ℕ, zero, suc, ◌^◌, ◌≤◌, ◌<◌}
@@ -7,7 +7,11 @@ use native.Mathlib.Omega.{arith}
 use lib.Dec.{eqb, leb, ltb}
 use lib.ListN.{length, length-take}
 use borrow.Author.Tests.{leb-true, ltb-true, eqb-true}
+use Rattle.std.specs.Prelude.{Result, Err}
+use Rattle.std.specs.Result.{IsErrAnd}
+use Rattle.std.proofs.lemmas.Result.{err_from_is_err_and}
 use Rattle.counting.specs.Block.{valid_size}
+use Rattle.counting.specs.declared.refusal.Refusal.{Refusal}
 use Rattle.subsets.specs.Bits.{valid_width, bits_refusal}
 use Rattle.subsets.specs.Subsets.{Subset}
 use Rattle.subsets.proofs.Refusing.{width_bounds}
@@ -17,6 +21,10 @@ use Rattle.searching.proofs.Refusing.{neither}
 use Rattle.searching.specs.declared.finding.Finding.{Finding}
 use Rattle.judging.specs.Permutation.{each_once}
 use Rattle.judging.specs.Check.{chosen, limit_refusal, length_refusal, shape_refusal, scratch_refusal, division_refusal, order_refusal, cleared_after, cleared}
+
+-- what a `?` hands on
+pub handed_on : {A : Type 0} (r : Result A Refusal) (e : Refusal) → IsErrAnd r (λ x. x ≡ e) → r ≡ Err e
+handed_on r e h = let p = err_from_is_err_and r h in p.1 ∙ ap Err p.2
 
 pub limit_none : (f : Finding) → valid_size f.block_size ≡ true → valid_width f.width ≡ true → limit_refusal f ≡ 0
 unfolding limit_refusal

@@ -8,9 +8,13 @@ use lib.Dec.{leb}
 use lib.Ieee.{Float, nan}
 use lib.ListN.{length, get_or, replicate, take, drop, length-replicate}
 use borrow.Author.Tests.{leb-true}
+use Rattle.std.specs.Prelude.{Result, Err}
 use Rattle.counting.specs.Block.{place_in, block_bit}
 use Rattle.counting.specs.Recording.{recorded_bit}
+use Rattle.counting.specs.Refusal.{number_of}
+use Rattle.counting.specs.declared.refusal.Refusal.{Refusal}
 use Rattle.counting.specs.Sample.{counts_of, total, Bits}
+use Rattle.counting.proofs.Reasons.{some_number}
 use Rattle.counting.proofs.Lanes.{bit_lt}
 use Rattle.scoring.specs.Halves.{part}
 use Rattle.scoring.specs.Score.{z_score}
@@ -21,8 +25,8 @@ use Rattle.searching.proofs.Refusing.{neither}
 use Rattle.subsets.proofs.Listing.{bits_below}
 use Rattle.searching.specs.declared.finding.Finding.{Finding}
 use Rattle.judging.specs.Check.{chosen, shape_refusal, cleared}
-use Rattle.judging.specs.Evaluation.{testing_blocks, positive_of, positive_in, z_in, score_for, score_number, blocks_refusal, early_evaluation_refusal, evaluation_refusal, answer_with, evaluated_of, number_with, evaluated_number, scratch_after, CountableData}
-use Rattle.judging.specs.declared.evaluation.Evaluated.{Evaluated}
+use Rattle.judging.specs.Evaluation.{testing_blocks, positive_of, positive_in, z_in, score_for, score_number, blocks_refusal, early_evaluation_refusal, evaluation_refusal, Evaluated, as_evaluated, answer_with, evaluated_of, number_with, evaluated_number, scratch_after, CountableData}
+use Rattle.judging.specs.declared.evaluation.Evaluated as found
 use Rattle.judging.specs.declared.evaluation.Score.TheVariants.{NoSample}
 use Rattle.judging.proofs.Tallying.{counts_none}
 use Rattle.judging.proofs.Checking.{Shaped, shaped, subset_of, chosen_length, room}
@@ -60,9 +64,12 @@ countable f order scratch bytes e size =
 
 -- ---- the answer
 
-pub answer_refused : (r n positive : ℕ) (z : Float) → (r ≡ 0 → ⊥) → ◌≡◌ {A = Evaluated} (record { refusal = r; positive = 0; score = NoSample }) (answer_with r n positive z)
-answer_refused zero n positive z h = absurd (h refl)
-answer_refused (suc r) n positive z h = refl
+pub answer_refused : (a : Result found.Evaluated Refusal) (e : Refusal) (r n positive : ℕ) (z : Float) → a ≡ Err e → number_of e ≡ r → as_evaluated a ≡ answer_with r n positive z
+answer_refused a e r n positive z h is = ap as_evaluated h ∙ go r is
+  where
+    go : (r : ℕ) → number_of e ≡ r → as_evaluated (Err e) ≡ answer_with r n positive z
+    go zero is = absurd (some_number e is)
+    go (suc r) is = ap (λ (x : ℕ). record { refusal = x; positive = 0; score = NoSample }) is
 
 pub answer_found : (r n positive : ℕ) (z : Float) → r ≡ 0 → ◌≡◌ {A = Evaluated} (record { refusal = 0; positive = positive; score = score_for n z }) (answer_with r n positive z)
 answer_found r n positive z e = rw e refl
@@ -92,16 +99,16 @@ no_blocks f order bytes e =
     ap (λ (n : ℕ). z_score n (positive_of (counts_of bit n (chosen f)) order f.division) p) e
     ∙ ap (λ (c : ℕ). z_score 0 c p) none ∙ empty_is_nan p
 
-number_of : (r n positive : ℕ) (z : Float) → (n ≡ 0 → z ≡ nan) → score_number (answer_with r n positive z).score ≡ number_with r z
-number_of zero zero positive z h = sym (h refl)
-number_of zero (suc n) positive z h = refl
-number_of (suc r) n positive z h = refl
+number_is : (r n positive : ℕ) (z : Float) → (n ≡ 0 → z ≡ nan) → score_number (answer_with r n positive z).score ≡ number_with r z
+number_is zero zero positive z h = sym (h refl)
+number_is zero (suc n) positive z h = refl
+number_is (suc r) n positive z h = refl
 
 pub answer_number : (f : Finding) (order bytes : List ℕ) (scratch : ℕ) (r : Evaluated) → r ≡ evaluated_of f order bytes scratch → score_number r.score ≡ evaluated_number f order bytes scratch
 unfolding evaluated_of evaluated_number
 answer_number f order bytes scratch r is =
     ap (λ (a : Evaluated). score_number a.score) is
-    ∙ number_of (evaluation_refusal f order bytes scratch) (testing_blocks f bytes) (positive_in f order bytes) (z_in f order bytes) (no_blocks f order bytes)
+    ∙ number_is (evaluation_refusal f order bytes scratch) (testing_blocks f bytes) (positive_in f order bytes) (z_in f order bytes) (no_blocks f order bytes)
 
 -- ---- the scratch
 

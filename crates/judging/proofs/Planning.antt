@@ -3,7 +3,7 @@ use mathlib.Core.Path.{◌≡◌, refl, ap, sym, ◌∙◌}
 use mathlib.Core.Bool.{Bool, true, false, cond}
 use mathlib.Core.List.{List, [], ◌∷◌, ◌++◌, map, append_assoc}
 use Prim.Native.Nat.{ℕ, zero, suc, ◌+◌, ◌-◌, ◌*◌, ◌^◌, ◌≤◌, ◌<◌, max}
-use native.Mathlib.Nat.{pow-succ'}
+use native.Mathlib.Nat.{pow-succ', mul_comm}
 use native.Mathlib.Numerals.{add-one}
 use native.Mathlib.Omega.{arith}
 use lib.Dec.{leb, eqb}
@@ -139,14 +139,14 @@ module _ (B bytes top p size : ℕ) (blocks widths : List ℕ) (d : Planned B by
           absurd (omega (arith, rw none at d.room))
       by_test false e = omega (arith, eqb-false p 7 e, d.few)
 
-  pub turn : size ≤ top → Planned B bytes top (p + 1) (2 * size) (set blocks p size) (set widths p (width_for size bytes))
+  pub turn : size ≤ top → Planned B bytes top (p + 1) (size * 2) (set blocks p size) (set widths p (width_for size bytes))
   turn h =
       let within = entry_left h in
       let next : 7 - p ≡ suc (7 - suc p) = omega arith in
       let front : sizes_from (7 - p) top size ≡ size ∷ sizes_from (7 - suc p) top (2 * size) = rw next (one_more (7 - suc p) top size d.big h) in
       let s : drop p (sizes_of B) ≡ size ∷ sizes_from (7 - suc p) top (2 * size) = d.sizes_left ∙ front in
       let w : drop p (widths_of B bytes) ≡ width_for size bytes ∷ map (λ s. width_for s bytes) (sizes_from (7 - suc p) top (2 * size)) = d.widths_left ∙ ap (map (λ s. width_for s bytes)) front in
-      rw add-one
+      rw (add-one, mul_comm size 2)
       (record {
         few = omega arith;
         big = omega (arith, d.big);

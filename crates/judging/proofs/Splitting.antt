@@ -1,6 +1,6 @@
 -- What a split that is not refused has, and that its parts are the whole blocks.
 use mathlib.Core.Path.{◌≡◌, refl, ap, sym, ◌∙◌}
-use mathlib.Core.Bool.{Bool, true, false, cond}
+use mathlib.Core.Bool.{Bool, true, false, cond, false≢true}
 use mathlib.Core.List.{List}
 use Prim.Native.Nat.{ℕ, ◌+◌, ◌-◌, ◌*◌, ◌/◌, ◌≤◌}
 use native.Mathlib.Nat.{div-mul-le_self, mul-le-mul_right, add-mul}
@@ -9,10 +9,25 @@ use lib.Dec.{leb}
 use lib.ListN.{length, take, drop, length-take, length-drop}
 use lib.Seq.{take-add, length-take-le}
 use borrow.Author.Tests.{leb-true, le-leb, eq-eqb}
+use Rattle.std.specs.Prelude.{Result, Ok, Err}
+use Rattle.std.specs.Result.{is_err}
 use Rattle.counting.specs.Block.{valid_size}
+use Rattle.counting.specs.Refusal.{refusal_of}
+use Rattle.counting.specs.declared.refusal.Refusal.{Refusal}
+use Rattle.counting.proofs.Reasons.{some_number}
 use Rattle.counting.specs.Recording.{block_bytes, blocks_in}
 use Rattle.counting.proofs.Accepted.{Valid, valid_facts}
 use Rattle.judging.specs.Split.{split_refusal, first_blocks, first_part, second_part, Parts, BlocksOfSixteen}
+
+-- what the answer's test says of its number
+
+pub no_refusal : {A : Type 0} (r : Result A Refusal) (n : ℕ) → refusal_of r ≡ n → is_err r ≡ false → n ≡ 0
+no_refusal (Ok x) n e t = sym e
+no_refusal (Err r) n e t = absurd (false≢true (sym t))
+
+pub some_refusal : {A : Type 0} (r : Result A Refusal) (n : ℕ) → refusal_of r ≡ n → is_err r ≡ true → n ≡ 0 → ⊥
+some_refusal (Ok x) n e t z = absurd (false≢true t)
+some_refusal (Err r) n e t z = some_number r (e ∙ z)
 
 neither : (a b : Bool) → ◌≡◌ {A = ℕ} (cond a (cond b 0 8) 1) 0 → (a ≡ true) × (b ≡ true)
 neither true true h = (refl, refl)

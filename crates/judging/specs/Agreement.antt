@@ -9,9 +9,9 @@ use Rattle.sampling.specs.declared.sampler.Sampler.{Sampler}
 use Rattle.ranking.specs.Ranking.{in_bin_order}
 use Rattle.scoring.specs.Score.{abs}
 use Rattle.searching.specs.Claim.{Acquisition, BestOf}
+use Rattle.searching.specs.Finding.{Searched}
 use Rattle.searching.specs.Search.{BottomupSearch}
 use Rattle.searching.specs.declared.finding.Finding.{Finding}
-use Rattle.searching.specs.declared.finding.Searched.{Searched}
 use Rattle.judging.specs.Evaluation.{counts_in, positive_in, z_in, evaluation_refusal}
 
 -- What an evaluation of f makes of the recording that holds `held`, where the search left f, its counts and its order in the buffers.

@@ -1,15 +1,17 @@
 -- How a finding does on data: the counts of its bins over the data's whole blocks, how many blocks are positive, and the score.
-use Rattle.std.specs.Prelude.{◌≡◌, ℕ, zero, suc, ◌^◌, ◌≤◌, true, cond, List, ◌++◌, map, leb, Float, length, get_or, take, drop}
+use Rattle.std.specs.Prelude.{◌≡◌, ℕ, zero, suc, ◌^◌, ◌≤◌, true, cond, List, ◌++◌, map, leb, Float, length, get_or, take, drop, Result, Ok, Err}
 use Rattle.std.specs.Float.{nan}
 use Rattle.counting.specs.Block.{valid_size}
 use Rattle.counting.specs.Recording.{blocks_in, recorded_bit}
+use Rattle.counting.specs.Refusal.{number_of}
 use Rattle.counting.specs.Sample.{counts_of, total, Below}
+use Rattle.counting.specs.declared.refusal.Refusal.{Refusal}
 use Rattle.scoring.specs.Halves.{part}
 use Rattle.scoring.specs.Score.{z_score}
 use Rattle.searching.specs.Refusal.{or_else}
 use Rattle.searching.specs.declared.finding.Finding.{Finding}
 use Rattle.judging.specs.Check.{chosen, shape_refusal, scratch_refusal, order_refusal, cleared}
-use Rattle.judging.specs.declared.evaluation.Evaluated.{Evaluated}
+use Rattle.judging.specs.declared.evaluation.Evaluated as found
 use Rattle.judging.specs.declared.evaluation.Score.{Score}
 use Rattle.judging.specs.declared.evaluation.Score.TheVariants.{Z, NoSample}
 
@@ -55,6 +57,17 @@ early_evaluation_refusal f order n scratch = or_else (shape_refusal f order) (or
 unfoldable pub evaluation_refusal : Finding → List ℕ → List ℕ → ℕ → ℕ
 evaluation_refusal f order bytes scratch =
     or_else (early_evaluation_refusal f (length order) (testing_blocks f bytes) scratch) (order_refusal f.width f.division order)
+
+-- an answer of an evaluation as three values: a refusal, 0 where there is none, how many blocks are positive, and the score
+pub record Evaluated : Type 0 where
+  pub refusal : ℕ
+  pub positive : ℕ
+  pub score : Score
+
+-- the three values of an answer: beside a refusal, no block is positive and there is no sample
+abbrev pub as_evaluated : Result found.Evaluated Refusal → Evaluated
+as_evaluated (Ok e) = record { refusal = 0; positive = e.positive; score = e.score }
+as_evaluated (Err r) = record { refusal = number_of r; positive = 0; score = NoSample }
 
 -- the answer with the refusal r: beside one, no block is positive and there is no sample
 abbrev pub answer_with : ℕ → ℕ → ℕ → Float → Evaluated

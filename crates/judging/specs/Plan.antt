@@ -1,8 +1,11 @@
 -- The plan of a sweep (`configurations`): the block sizes to search, and the width for each.
-use Rattle.std.specs.Prelude.{◌≡◌, true, cond, ◌&&◌, ℕ, zero, suc, ◌-◌, ◌*◌, ◌^◌, ◌≤◌, ◌<◌, max, leb, ltb, eqb, length, get_or, replicate}
+use Rattle.std.specs.Prelude.{◌≡◌, true, cond, ◌&&◌, ℕ, zero, suc, ◌-◌, ◌*◌, ◌^◌, ◌≤◌, ◌<◌, max, leb, ltb, eqb, length, get_or, replicate, Result, Ok, Err}
 use mathlib.Core.List.{List, [], ◌∷◌, ◌++◌, map, Memᴰ}
 use Rattle.counting.specs.Block.{valid_size}
-use Rattle.judging.specs.declared.plan.Plan.{Plan}
+use Rattle.counting.specs.Refusal.{number_of}
+use Rattle.counting.specs.declared.refusal.Refusal.{Refusal}
+use Rattle.judging.specs.declared.plan.Plan as planned
+use Rattle.judging.specs.declared.plan.Planned.{Planned}
 
 -- the width for a block size and a number of bytes
 unfoldable pub width_for : ℕ → ℕ → ℕ
@@ -33,6 +36,26 @@ widths_of B bytes = 8 ∷ map (λ size. width_for size bytes) (sizes_from 7 (max
 -- seven entries: those of the list, then zeros
 abbrev pub padded_to_seven : List ℕ → List ℕ
 padded_to_seven l = l ++ replicate (7 - length l) 0
+
+-- a plan as numbers and lists: a refusal, 0 where there is none, the number of pairs, and the block size and the width of each, 0 past the planned ones
+pub record Plan : Type 0 where
+  pub refusal : ℕ
+  pub pairs : ℕ
+  pub blocks : List ℕ
+  pub widths : List ℕ
+
+-- the block sizes of pairs, and their widths
+
+abbrev pub sizes_in : List Planned → List ℕ
+sizes_in pairs = map (λ (p : Planned). p.block_size) pairs
+
+abbrev pub widths_in : List Planned → List ℕ
+widths_in pairs = map (λ (p : Planned). p.width) pairs
+
+-- an answer of `configurations` as such: every field 0 beside a refusal
+abbrev pub as_plan : Result planned.Plan Refusal → Plan
+as_plan (Ok p) = record { refusal = 0; pairs = p.pairs; blocks = sizes_in p.sizes; widths = widths_in p.sizes }
+as_plan (Err r) = record { refusal = number_of r; pairs = 0; blocks = replicate 7 0; widths = replicate 7 0 }
 
 -- the plan; 1, and every field 0, where B is outside its limits
 unfoldable pub plan_of : ℕ → ℕ → Plan

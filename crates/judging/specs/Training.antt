@@ -8,10 +8,9 @@ use Rattle.sampling.specs.Sampler.{blocks_of}
 use Rattle.sampling.specs.declared.sampler.Sampler.{Sampler}
 use Rattle.ranking.specs.Order.{order_of}
 use Rattle.searching.specs.Claim.{Acquisition}
-use Rattle.searching.specs.Finding.{winner_of, finding_of}
+use Rattle.searching.specs.Finding.{Searched, winner_of, finding_of}
 use Rattle.searching.specs.Search.{BottomupSearch}
 use Rattle.searching.specs.declared.finding.Finding.{Finding}
-use Rattle.searching.specs.declared.finding.Searched.{Searched}
 use Rattle.judging.specs.Evaluation.{positive_in, z_in, evaluated_of}
 use Rattle.judging.specs.declared.evaluation.Score.TheVariants.{Z}
 

@@ -1,15 +1,17 @@
 // How a finding does on data.
 ghost use Rattle.std.specs.Prelude.{◌≡◌, ◌/◌, ◌^◌, ◌≤◌, length, replicate};
 ghost use Rattle.counting.specs.Recording.{blocks_in, recorded_bit};
+ghost use Rattle.counting.specs.Refusal.{refusal_of};
 ghost use Rattle.counting.specs.Sample.{counts_of, total};
 ghost use Rattle.scoring.specs.Halves.{part};
 ghost use Rattle.scoring.specs.Score.{z_score};
 ghost use Rattle.judging.specs.Check.{chosen};
 ghost use Rattle.judging.specs.Permutation.{Permutation};
-ghost use Rattle.judging.specs.Evaluation.{positive_of, score_for, early_evaluation_refusal, evaluated_of, score_number, evaluated_number, evaluated_scratch, counts_in, positive_in, CountableData};
+ghost use Rattle.judging.specs.Evaluation.{positive_of, score_for, early_evaluation_refusal, as_evaluated, evaluated_of, score_number, evaluated_number, evaluated_scratch, counts_in, positive_in, CountableData};
 
 use crate::check::{order_refusal, scratch_refusal, shape_refusal};
 use counting::block::{bin_count, bits_block_eval};
+use counting::refusal::Refusal;
 use scoring::halves::share;
 use scoring::score::z_score;
 use searching::finding::Finding;
@@ -21,10 +23,9 @@ pub enum Score {
     NoSample,
 }
 
-// What an evaluation answers: a refusal, 0 where there is none, how many blocks are positive, and the score.
+// What an evaluation answers: how many blocks are positive, and the score.
 #[derive(Clone, Copy)]
 pub struct Evaluated {
-    pub refusal: u32,
     pub positive: u32,
     pub score: Score,
 }
@@ -35,52 +36,32 @@ pub fn evaluate_histogram(
     order: &[u32],
     bytes: &[u8],
     scratch: &mut [u32],
-) -> Evaluated
-    ensures value { result ≡ evaluated_of finding order.now bytes.now (length scratch.old) }
-    ensures score_value { score_number result.score ≡ evaluated_number finding order.now bytes.now (length scratch.old) }
+) -> Result<Evaluated, Refusal>
+    ensures value { as_evaluated result ≡ evaluated_of finding order.now bytes.now (length scratch.old) }
+    ensures score_value { score_number (as_evaluated result).score ≡ evaluated_number finding order.now bytes.now (length scratch.old) }
     ensures scratch_after { scratch.new ≡ evaluated_scratch finding order.now bytes.now scratch.old }
 {
-    let early = early_evaluation_refusal(finding, order.len(), bytes.len(), scratch.len());
-    if early != 0 {
-        return refused(early);
-    }
-    let refusal = order_refusal(finding.width, finding.division, order, scratch);
-    if refusal != 0 {
-        return refused(refusal);
-    }
+    early_evaluation_refusal(finding, order.len(), bytes.len(), scratch.len())?;
+    order_refusal(finding.width, finding.division, order, scratch)?;
     let m = bin_count(finding.width);
     let positive = evaluate(finding, order, bytes, &mut scratch[..m]);
     let n = bytes.len() / (finding.block_size / 8);
     let score = score_of(n as u32, positive, finding.division, finding.width);
-    Evaluated {
-        refusal: 0,
-        positive,
-        score,
-    }
+    Ok(Evaluated { positive, score })
 }
 
-// A refusal, no positive block and no sample.
-fn refused(refusal: u32) -> Evaluated
-    ensures { result ≡ record { refusal = refusal; positive = 0; score = Score.NoSample } }
+// 1, 2, 9, 10, 11, 12, 7, unless the scratch may be used.
+fn early_evaluation_refusal(
+    finding: Finding,
+    order: usize,
+    bytes: usize,
+    scratch: usize,
+) -> Result<(), Refusal>
+    ensures { refusal_of result ≡ early_evaluation_refusal finding order (bytes / (finding.block_size / 8)) scratch }
 {
-    let score = Score::NoSample;
-    Evaluated {
-        refusal,
-        positive: 0,
-        score,
-    }
-}
-
-// 1, 2, 9, 10, 11, 12, 7, or 0 where the scratch may be used.
-fn early_evaluation_refusal(finding: Finding, order: usize, bytes: usize, scratch: usize) -> u32
-    ensures { result ≡ early_evaluation_refusal finding order (bytes / (finding.block_size / 8)) scratch }
-{
-    let refusal = shape_refusal(finding, order);
-    if refusal != 0 {
-        return refusal;
-    }
+    shape_refusal(finding, order)?;
     if bytes / (finding.block_size / 8) > 16777216 {
-        return 12;
+        return Err(Refusal::TooMany);
     }
     scratch_refusal(finding.width, scratch)
 }
@@ -112,14 +93,9 @@ fn count_blocks(bits: &[u32], block_size: usize, low_first: bool, bytes: &[u8], 
     ensures { bins.new ≡ counts_of (recorded_bit block_size low_first bytes.now) (blocks_in block_size bytes.now) bits.now }
 {
     let size = block_size / 8;
-    let n = bytes.len() / size;
-    let mut e: usize = 0;
-    while e < n {
-        let at = e * size;
-        let end = at + size;
-        let v = bits_block_eval(bits, low_first, &bytes[at..end]) as usize;
+    for block in bytes.chunks_exact(size) {
+        let v = bits_block_eval(bits, low_first, block) as usize;
         bins[v] += 1;
-        e += 1;
     }
 }
 
@@ -129,12 +105,9 @@ fn sum_first(bins: &[u32], order: &[u32], division: usize) -> u32
     requires division_in_bounds { (division ≤ length order.now) × (total bins.now ≤ 16777216) }
     ensures { result ≡ positive_of bins.now order.now division }
 {
-    let mut sum: u32 = 0;
-    let mut i: usize = 0;
-    while i < division {
-        let v = order[i] as usize;
-        sum += bins[v];
-        i += 1;
+    let mut sum = 0;
+    for bin in &order[..division] {
+        sum += bins[*bin as usize];
     }
     sum
 }

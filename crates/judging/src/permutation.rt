@@ -7,20 +7,10 @@ pub fn is_permutation(order: &[u32], seen: &mut [u32]) -> bool
     ensures value { result ≡ each_once (length seen.old) order.now }
     ensures seen_after { seen.new ≡ replicate (length seen.old) 0 }
 {
-    clear(seen);
+    seen.fill(0);
     let once = mark(order, seen);
-    clear(seen);
+    seen.fill(0);
     once
-}
-
-fn clear(seen: &mut [u32])
-    ensures { seen.new ≡ replicate (length seen.old) 0 }
-{
-    let mut i = 0;
-    while i < seen.len() {
-        seen[i] = 0;
-        i += 1;
-    }
 }
 
 // From the last entry back, marks each bin; false at an entry that is no bin, or whose bin is marked.
@@ -28,10 +18,8 @@ fn mark(order: &[u32], seen: &mut [u32]) -> bool
     requires { seen.old ≡ replicate (length seen.old) 0 }
     ensures { result ≡ each_once (length seen.old) order.now }
 {
-    let mut i = order.len();
-    while 0 < i {
-        i -= 1;
-        let v = order[i] as usize;
+    for bin in order.iter().rev() {
+        let v = *bin as usize;
         if v >= seen.len() {
             return false;
         }

@@ -1,49 +1,51 @@
 // The plan of a sweep: the block sizes to search one after the other, and the width for each.
-ghost use Rattle.std.specs.Prelude.{◌≡◌, max};
-ghost use Rattle.judging.specs.Plan.{width_for, after_eight, plan_of};
+ghost use Rattle.std.specs.Prelude.{◌≡◌};
+ghost use Rattle.judging.specs.Plan.{width_for, after_eight, as_plan, plan_of};
 
 use counting::block::valid_block_size;
+use counting::refusal::Refusal;
 
-// A plan: a refusal, 0 where there is none, the number of pairs, and the block size and the width of each, 0 past the planned ones.
+// A block size, and the width for it.
+#[derive(Clone, Copy)]
+pub struct Planned {
+    pub block_size: usize,
+    pub width: usize,
+}
+
+// A plan: the number of pairs, and the pairs, 0 in both numbers past the planned ones.
 #[derive(Clone, Copy)]
 pub struct Plan {
-    pub refusal: u32,
     pub pairs: usize,
-    pub blocks: [usize; 7],
-    pub widths: [usize; 7],
+    pub sizes: [Planned; 7],
 }
 
 // The plan for a block size and a number of bytes: 8 with every bit of a byte, then the block size, twice it and on up to 512. Refusal 1.
-pub fn configurations(block_size: usize, data_size: usize) -> Plan
-    ensures { result ≡ plan_of block_size data_size }
+pub fn configurations(block_size: usize, data_size: usize) -> Result<Plan, Refusal>
+    ensures { as_plan result ≡ plan_of block_size data_size }
 {
-    let mut blocks: [usize; 7] = [0; 7];
-    let mut widths: [usize; 7] = [0; 7];
     if !valid_block_size(block_size) {
-        return Plan {
-            refusal: 1,
-            pairs: 0,
-            blocks,
-            widths,
-        };
+        return Err(Refusal::BlockSize);
     }
-    blocks[0] = 8;
-    widths[0] = 8;
+    let mut sizes = [Planned {
+        block_size: 0,
+        width: 0,
+    }; 7];
+    sizes[0] = Planned {
+        block_size: 8,
+        width: 8,
+    };
     let mut pairs = 1;
-    let top = greater(block_size, 512);
+    let top = block_size.max(512);
     let mut size = after_eight(block_size);
     while size <= top {
-        blocks[pairs] = size;
-        widths[pairs] = width_for(size, data_size);
+        sizes[pairs] = Planned {
+            block_size: size,
+            width: width_for(size, data_size),
+        };
         pairs += 1;
-        size = 2 * size;
+        size *= 2;
     }
-    Plan {
-        refusal: 0,
-        pairs,
-        blocks,
-        widths,
-    }
+    Ok(Plan { pairs, sizes })
 }
 
 // The width for one block size: the more data and the longer the block, the fewer bits.
@@ -64,10 +66,4 @@ fn after_eight(block_size: usize) -> usize
     ensures { result ≡ after_eight block_size }
 {
     if block_size == 8 { 16 } else { block_size }
-}
-
-fn greater(a: usize, b: usize) -> usize
-    ensures { result ≡ max a b }
-{
-    if a < b { b } else { a }
 }

@@ -22,11 +22,8 @@ pub fn train(
     requires { Trainable block_size k (length training.now) (length words.old) (length bins.old) (length order.old) }
     ensures { Trained block_size low_first k training.now result order.new }
 {
-    let started = start(block_size, low_first, words);
-    let fed = feed(started.sampler, words, 0, training);
-    let sampler = fed.sampler;
-    let head = sampler.head;
-    let n = blocks(head);
-    let searched = bottomup(head, words, 0, n, k, store, bins, order);
-    searched.finding
+    let fresh = start(block_size, low_first, words).unwrap();
+    let sampler = feed(fresh, words, 0, training).unwrap();
+    let n = blocks(sampler.head);
+    bottomup(sampler.head, words, 0, n, k, store, bins, order).unwrap()
 }

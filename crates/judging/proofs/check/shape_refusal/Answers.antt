@@ -1,5 +1,5 @@
 -- `check::shape_refusal` meets its contract: each return has the tests that led there.
-use mathlib.Core.Path.{◌≡◌, sym, ◌∙◌}
+use mathlib.Core.Path.{◌≡◌, sym, ap, ◌∙◌}
 use mathlib.Core.Bool.{true}
 use Prim.Native.Nat.{◌^◌, ◌≤◌}
 use native.Mathlib.Omega.{arith}
@@ -7,12 +7,14 @@ use lib.ListN.{length}
 use borrow.Author.Rules.{rules}
 use borrow.Author.Tests.{eq-eqb, ne_eqb}
 use Rattle.counting.specs.Block.{valid_size}
+use Rattle.counting.specs.Refusal.{refusal_of}
+use Rattle.counting.proofs.Reasons.{some_number}
 use Rattle.subsets.specs.Bits.{valid_width, bits_refusal}
 use Rattle.subsets.proofs.Refusing.{width_bounds}
 use Rattle.searching.proofs.Refusing.{or_first, or_next}
 use Rattle.judging.specs.Check.{chosen, limit_refusal, length_refusal, shape_refusal}
-use Rattle.judging.proofs.Checking.{limit_none, chosen_length}
-use Rattle.judging.proofs.check.shape_refusal.Goals.{Else-not-valid_block_size, Else-not-valid_width, Else-refusal-ne0, Start}
+use Rattle.judging.proofs.Checking.{handed_on, limit_none, chosen_length}
+use Rattle.judging.proofs.check.shape_refusal.Goals.{Else-not-valid_block_size, Else-not-valid_width, In_ok-bits_refusal, Start}
 use Rattle.judging.proofs.check.shape_refusal.Goals as goal
 
 -- what has been shown past each of the first two tests
@@ -30,8 +32,8 @@ size : (s : Start) → length s.args.finding.bits ≡ 20
 size s = search rules
 
 -- the bits are no refusal
-bits_ok : (e : Else-refusal-ne0) → let a = e.args in bits_refusal a.finding.block_size (chosen a.finding) ≡ 0
-bits_ok e = sym e.bits_refusal-refusal.ensures ∙ e.if-refusal-ne0.false
+bits_ok : (e : In_ok-bits_refusal) → let a = e.args in bits_refusal a.finding.block_size (chosen a.finding) ≡ 0
+bits_ok e = sym e.in_ok-bits_refusal.ensures
 
 pub returns-then-not-valid_block_size : goal.returns-then-not-valid_block_size
 unfolding shape_refusal limit_refusal
@@ -50,13 +52,14 @@ slice_bounds-bits_refusal-end c =
     let narrow : c.args.finding.width ≤ 20 = omega (arith, width_bounds c.args.finding.width (width_ok (goal.at.slice_bounds-bits_refusal-end c).Else-not-valid_width)) in
     sym (chosen_length c.args.finding narrow (size (goal.at.slice_bounds-bits_refusal-end c).Start))
 
-pub returns-then-refusal-ne0 : goal.returns-then-refusal-ne0
+pub returns-in_err-bits_refusal : goal.returns-in_err-bits_refusal
 unfolding shape_refusal
-returns-then-refusal-ne0 c =
+returns-in_err-bits_refusal c =
     let a = c.args in
-    let is = c.bits_refusal-refusal.ensures in
-    is ∙ or_first (bits_refusal a.finding.block_size (chosen a.finding)) (length_refusal a.finding.width a.order) (λ z. c.if-refusal-ne0.true (is ∙ z))
-    ∙ or_next _ _ (limits_ok (goal.at.returns-then-refusal-ne0 c).Else-not-valid_width)
+    let is = c.in_err-bits_refusal.ensures in
+    ap refusal_of (handed_on _ _ c.from_residual.ensures.1)
+    ∙ is ∙ or_first (bits_refusal a.finding.block_size (chosen a.finding)) (length_refusal a.finding.width a.order) (λ z. some_number _ (is ∙ z))
+    ∙ or_next _ _ (limits_ok (goal.at.returns-in_err-bits_refusal c).Else-not-valid_width)
 
 pub bin_count-requires : goal.bin_count-requires
 bin_count-requires c =
@@ -66,10 +69,10 @@ pub returns-then-order-bin_count : goal.returns-then-order-bin_count
 unfolding shape_refusal length_refusal
 returns-then-order-bin_count c =
     let a = c.args in
-    simp (limits_ok (goal.at.returns-then-order-bin_count c).Else-not-valid_width, bits_ok (goal.at.returns-then-order-bin_count c).Else-refusal-ne0, ne_eqb a.order (2 ^ a.finding.width) (λ z. c.if-order-bin_count.true (z ∙ sym c.bin_count.ensures)))
+    simp (limits_ok (goal.at.returns-then-order-bin_count c).Else-not-valid_width, bits_ok (goal.at.returns-then-order-bin_count c).In_ok-bits_refusal, ne_eqb a.order (2 ^ a.finding.width) (λ z. c.if-order-bin_count.true (z ∙ sym c.bin_count.ensures)))
 
 pub returns : goal.returns
 unfolding shape_refusal length_refusal
 returns c =
     let a = c.args in
-    simp (limits_ok (goal.at.returns c).Else-not-valid_width, bits_ok (goal.at.returns c).Else-refusal-ne0, eq-eqb a.order (2 ^ a.finding.width) (c.if-order-bin_count.false ∙ c.bin_count.ensures))
+    simp (limits_ok (goal.at.returns c).Else-not-valid_width, bits_ok (goal.at.returns c).In_ok-bits_refusal, eq-eqb a.order (2 ^ a.finding.width) (c.if-order-bin_count.false ∙ c.bin_count.ensures))

@@ -1,59 +1,47 @@
--- `evaluation::sum_first` meets its contract: after i turns the sum is that of the first i counts of the order.
+-- `evaluation::sum_first` meets its contract: the sum is that of the counts of the order gone over.
 use mathlib.Core.Path.{◌≡◌, sym, ap, ◌∙◌}
-use Prim.Native.Nat.{ℕ, ◌+◌, ◌<◌, zero-le}
+use Prim.Native.Nat.{ℕ, ◌+◌, ◌<◌}
 use native.Mathlib.Omega.{arith}
-use lib.ListN.{length, get_or}
+use lib.ListN.{length, get_or, take}
+use lib.Seq.{length-take-le}
+use Rattle.std.proofs.lemmas.List.{get_or-take}
 use Rattle.judging.specs.Evaluation.{positive_of}
 use Rattle.judging.proofs.Tallying.{positive_none, positive_more, positive_most, bin_below}
-use Rattle.judging.proofs.evaluation.sum_first.Goals.{In-loop-i}
+use Rattle.judging.proofs.evaluation.sum_first.Goals.{In-loop-bin}
 use Rattle.judging.proofs.evaluation.sum_first.Goals as goal
 
--- the place of a turn is one of the order
-place : (d : In-loop-i) → d.loop-i.i < length d.args.order.now
-place d = omega (arith, d.loop-i-test.true, d.requires.division_in_bounds.0)
+-- the bin of a turn
+here : (d : In-loop-bin) → let a = d.args in (d.loop-bin.bin-index < a.division) × (get_or (take a.division a.order.now) d.loop-bin.bin-index 0 ≡ get_or a.order.now d.loop-bin.bin-index 0)
+here d =
+    let within : d.loop-bin.bin-index < d.args.division = omega (arith, d.loop-bin-test.true, length-take-le d.args.division d.args.order.now d.requires.division_in_bounds.0) in
+    (within, get_or-take d.args.division d.args.order.now d.loop-bin.bin-index 0 within)
 
--- and the bin there is one of the bins
-below : (d : In-loop-i) → let a = d.args in get_or a.order.now d.loop-i.i 0 < length a.bins.now
-below d = let a = d.args in bin_below (length a.bins.now) a.order.now d.loop-i.i d.requires.permutation (place d)
-
--- the sum after a turn
-more : (d : In-loop-i) → let a = d.args in let i = d.loop-i.i in
-    d.loop-i.sum + get_or a.bins.now (get_or a.order.now i 0) 0 ≡ positive_of a.bins.now a.order.now (i + 1)
+-- the sum after it
+more : (d : In-loop-bin) → let a = d.args in let i = d.loop-bin.bin-index in
+    d.loop-bin.sum + get_or a.bins.now (get_or (take a.division a.order.now) i 0) 0 ≡ positive_of a.bins.now a.order.now (i + 1)
 more d =
     let a = d.args in
-    let i = d.loop-i.i in
-    ap (λ (x : ℕ). x + get_or a.bins.now (get_or a.order.now i 0) 0) d.loop-i.invariant.1 ∙ positive_more a.bins.now a.order.now i (place d)
+    let i = d.loop-bin.bin-index in
+    rw ((here d).1) (ap (λ (x : ℕ). x + get_or a.bins.now (get_or a.order.now i 0) 0) d.loop-bin.invariant ∙ positive_more a.bins.now a.order.now i (omega (arith, (here d).0, d.requires.division_in_bounds.0)))
 
-pub loop-i-init : goal.loop-i-init
-loop-i-init c = (zero-le, sym (positive_none c.args.bins.now c.args.order.now))
+pub loop-bin-init : goal.loop-bin-init
+loop-bin-init c = sym (positive_none c.args.bins.now c.args.order.now)
 
-pub offset_bounds-order-i : goal.offset_bounds-order-i
-offset_bounds-order-i c = omega (arith, place c)
-
-pub bounds-order-i : goal.bounds-order-i
-bounds-order-i c = omega (arith, place (goal.at.bounds-order-i c).In-loop-i)
-
-pub overflow_cast-v : goal.overflow_cast-v
-overflow_cast-v c = omega (arith, c.shared_slice_known-1.given c.loop-i.i)
-
-pub offset_bounds-bins-v : goal.offset_bounds-bins-v
-offset_bounds-bins-v c = omega (arith, below (goal.at.offset_bounds-bins-v c).In-loop-i)
-
-pub bounds-bins-v : goal.bounds-bins-v
-bounds-bins-v c = omega (arith, below (goal.at.bounds-bins-v c).In-loop-i)
+pub bounds-bins-bin : goal.bounds-bins-bin
+bounds-bins-bin c =
+    let a = c.args in
+    let h = here (goal.at.bounds-bins-bin c).In-loop-bin in
+    rw (h.1) (bin_below (length a.bins.now) a.order.now c.loop-bin.bin-index c.requires.permutation (omega (arith, h.0, c.requires.division_in_bounds.0)))
 
 pub overflow_add-sum : goal.overflow_add-sum
 overflow_add-sum c =
-    omega (arith, more (goal.at.overflow_add-sum c).In-loop-i, positive_most c.args.bins.now c.args.order.now (c.loop-i.i + 1) c.requires.permutation, c.requires.division_in_bounds.1)
+    omega (arith, more (goal.at.overflow_add-sum c).In-loop-bin, positive_most c.args.bins.now c.args.order.now (c.loop-bin.bin-index + 1) c.requires.permutation, c.requires.division_in_bounds.1)
 
-pub overflow_add-i : goal.overflow_add-i
-overflow_add-i c = omega (arith, place (goal.at.overflow_add-i c).In-loop-i)
-
-pub loop-i-preserved : goal.loop-i-preserved
-loop-i-preserved c = (omega (arith, c.loop-i-test.true), more (goal.at.loop-i-preserved c).In-loop-i)
+pub loop-bin-preserved : goal.loop-bin-preserved
+loop-bin-preserved c = more (goal.at.loop-bin-preserved c).In-loop-bin
 
 pub returns : goal.returns
 returns c =
     let a = c.args in
-    let past : c.loop-i.i ≡ a.division = omega (arith, c.loop-i-test.false, c.loop-i.invariant.0) in
-    c.loop-i.invariant.1 ∙ ap (positive_of a.bins.now a.order.now) past
+    let past : c.loop-bin.bin-index ≡ a.division = omega (arith, c.loop-bin-test.false, length-take-le a.division a.order.now c.requires.division_in_bounds.0) in
+    c.loop-bin.invariant ∙ ap (positive_of a.bins.now a.order.now) past

@@ -1,15 +1,9 @@
--- `permutation::mark` meets its contract. The invariant: the entries from i on pass the test, and the marks are theirs.
-use mathlib.Core.Path.{◌≡◌}
-use mathlib.Core.Bool.{true}
-use Prim.Native.Nat.{◌≤◌}
-use lib.ListN.{length, drop}
-use Rattle.judging.specs.Permutation.{each_once}
-use Rattle.judging.proofs.Marking.{Marked}
+-- `permutation::mark` meets its contract. The invariant: the entries gone over pass the test, and the marks are theirs.
+use lib.ListN.{length}
+use Rattle.std.specs.Iterator.Adapters.{rev_source}
+use Rattle.std.specs.Slice.Iter.{iter_rest}
+use Rattle.judging.proofs.Marking.{Passed}
 use Rattle.judging.proofs.permutation.mark.Given as goal
 
-abbrev pub invariant-loop-i : goal.invariant-loop-i
-invariant-loop-i l =
-    (l.i ≤ length l.order) × (length l.seen ≡ length l.initial.seen) × (each_once (length l.initial.seen) (drop l.i l.order) ≡ true) × Marked l.seen (drop l.i l.order)
-
-abbrev pub decreases-loop-i : goal.decreases-loop-i
-decreases-loop-i l = l.i
+abbrev pub invariant-loop-bin : goal.invariant-loop-bin
+invariant-loop-bin l = Passed l.order (length l.initial.seen) (iter_rest (rev_source l.bin-iterator)) l.seen

@@ -5,13 +5,15 @@ use Prim.Native.Nat.{◌≤◌, ◌<◌}
 use native.Mathlib.Omega.{arith}
 use Rattle.counting.specs.Block.{valid_size}
 use Rattle.counting.proofs.Accepted.{valid_facts}
-use Rattle.judging.specs.Plan.{plan_of}
+use Rattle.std.proofs.lemmas.List.{map-set}
+use Rattle.judging.specs.Plan.{sizes_in, widths_in, plan_of}
+use Rattle.judging.specs.declared.plan.Planned as pair
 use Rattle.judging.proofs.Planning.{Planned, begun, entry_left, turn, all_sizes, all_widths}
 use Rattle.judging.proofs.plan.configurations.Goals.{In-loop-size}
 use Rattle.judging.proofs.plan.configurations.Goals as goal
 
 -- what a turn begins with
-at_turn : (c : In-loop-size) → let s = c.args in let l = c.loop-size in Planned s.block_size s.data_size c.greater-top.result l.pairs l.size l.blocks l.widths
+at_turn : (c : In-loop-size) → let s = c.args in let l = c.loop-size in Planned s.block_size s.data_size c.max-top.result l.pairs l.size (sizes_in l.sizes) (widths_in l.sizes)
 at_turn c = c.loop-size.invariant.0
 
 within : (c : In-loop-size) → c.loop-size.pairs < 7
@@ -30,19 +32,13 @@ pub loop-size-init : goal.loop-size-init
 loop-size-init c =
     let s = c.args in
     let good : valid_size s.block_size ≡ true = sym c.valid_block_size.ensures ∙ c.if-not-valid_block_size.false in
-    (rw (c.greater-top.ensures, c.after_eight-size.ensures) (begun s.block_size s.data_size (valid_facts _ good)), (c.greater-top.ensures, good))
+    (rw (c.max-top.ensures, c.after_eight-size.ensures) (begun s.block_size s.data_size (valid_facts _ good)), (c.max-top.ensures, good))
 
-pub offset_bounds-blocks-pairs : goal.offset_bounds-blocks-pairs
-offset_bounds-blocks-pairs c = omega (arith, within c)
+pub offset_bounds-sizes-pairs : goal.offset_bounds-sizes-pairs
+offset_bounds-sizes-pairs c = omega (arith, within (goal.at.offset_bounds-sizes-pairs c).In-loop-size)
 
-pub bounds-blocks-pairs : goal.bounds-blocks-pairs
-bounds-blocks-pairs c = within c
-
-pub offset_bounds-widths-pairs : goal.offset_bounds-widths-pairs
-offset_bounds-widths-pairs c = omega (arith, within (goal.at.offset_bounds-widths-pairs c).In-loop-size)
-
-pub bounds-widths-pairs : goal.bounds-widths-pairs
-bounds-widths-pairs c = within (goal.at.bounds-widths-pairs c).In-loop-size
+pub bounds-sizes-pairs : goal.bounds-sizes-pairs
+bounds-sizes-pairs c = within (goal.at.bounds-sizes-pairs c).In-loop-size
 
 pub overflow_add-pairs : goal.overflow_add-pairs
 overflow_add-pairs c = omega (arith, within (goal.at.overflow_add-pairs c).In-loop-size)
@@ -56,7 +52,9 @@ loop-size-smaller c = omega (arith, c.loop-size-test.true, (at_turn (goal.at.loo
 pub loop-size-preserved : goal.loop-size-preserved
 loop-size-preserved c =
     let l = c.loop-size in
-    (rw c.width_for.ensures (turn _ _ _ _ _ _ _ (at_turn (goal.at.loop-size-preserved c).In-loop-size) c.loop-size-test.true), l.invariant.1)
+    let set_size = map-set (λ (p : pair.Planned). p.block_size) l.sizes l.pairs (record { block_size = l.size; width = c.width_for.result }) in
+    let set_width = map-set (λ (p : pair.Planned). p.width) l.sizes l.pairs (record { block_size = l.size; width = c.width_for.result }) in
+    (rw (set_size, set_width, c.width_for.ensures) (turn _ _ _ _ _ _ _ (at_turn (goal.at.loop-size-preserved c).In-loop-size) c.loop-size-test.true), l.invariant.1)
 
 pub returns : goal.returns
 unfolding plan_of

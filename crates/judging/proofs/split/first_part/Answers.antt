@@ -9,13 +9,13 @@ use lib.Seq.{length-take-le}
 use borrow.Author.Tests.{ne_eqb}
 use Rattle.counting.specs.Recording.{blocks_in, block_bytes}
 use Rattle.judging.specs.Split.{split_refusal, first_blocks, first_part}
-use Rattle.judging.proofs.Splitting.{splits, first_ends, blocks_end}
-use Rattle.judging.proofs.split.first_part.Goals.{After-first_blocks, Else-split_refusal-ne0}
+use Rattle.judging.proofs.Splitting.{no_refusal, some_refusal, splits, first_ends, blocks_end}
+use Rattle.judging.proofs.split.first_part.Goals.{After-first_blocks, Else-is_err}
 use Rattle.judging.proofs.split.first_part.Goals as goal
 
 -- past the refusal
-fine : (c : Else-split_refusal-ne0) → let s = c.args in split_refusal s.raw.now s.block_size ≡ 0
-fine c = sym c.split_refusal.ensures ∙ c.if-split_refusal-ne0.false
+fine : (c : Else-is_err) → let s = c.args in split_refusal s.raw.now s.block_size ≡ 0
+fine c = no_refusal _ _ c.split_refusal.ensures (sym c.is_err.ensures.value ∙ c.if-is_err.false)
 
 -- the part's end, within the raw bytes
 ends : (c : After-first_blocks) → let s = c.args in c.first_blocks.result * block_bytes s.block_size ≤ length s.raw.now
@@ -25,11 +25,11 @@ ends c =
     let is : c.first_blocks.result ≡ first_blocks m s.training = c.first_blocks.ensures in
     rw is (omega (arith, first_ends m s.training (block_bytes s.block_size), blocks_end s.raw.now s.block_size))
 
-pub returns-then-split_refusal-ne0 : goal.returns-then-split_refusal-ne0
+pub returns-then-is_err : goal.returns-then-is_err
 unfolding first_part
-returns-then-split_refusal-ne0 c =
+returns-then-is_err c =
     let s = c.args in
-    let no : eqb (split_refusal s.raw.now s.block_size) 0 ≡ false = ne_eqb _ _ (λ z. c.if-split_refusal-ne0.true (c.split_refusal.ensures ∙ z)) in
+    let no : eqb (split_refusal s.raw.now s.block_size) 0 ≡ false = ne_eqb _ _ (some_refusal _ _ c.split_refusal.ensures (sym c.is_err.ensures.value ∙ c.if-is_err.true)) in
     simp no
 
 pub nonzero_div-raw : goal.nonzero_div-raw
@@ -44,4 +44,4 @@ slice_bounds-result-end-2 c = sym (length-take-le _ _ (ends c))
 pub returns : goal.returns
 unfolding first_part
 returns c =
-    simp (fine (goal.at.returns c).Else-split_refusal-ne0, c.first_blocks.ensures)
+    simp (fine (goal.at.returns c).Else-is_err, c.first_blocks.ensures)

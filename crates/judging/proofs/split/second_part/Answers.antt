@@ -8,13 +8,13 @@ use lib.ListN.{length}
 use borrow.Author.Tests.{ne_eqb}
 use Rattle.counting.specs.Recording.{blocks_in, block_bytes}
 use Rattle.judging.specs.Split.{split_refusal, first_blocks, second_part}
-use Rattle.judging.proofs.Splitting.{splits, first_within, first_ends, blocks_end, rest_bytes}
-use Rattle.judging.proofs.split.second_part.Goals.{After-first_blocks, Else-split_refusal-ne0}
+use Rattle.judging.proofs.Splitting.{no_refusal, some_refusal, splits, first_within, first_ends, blocks_end, rest_bytes}
+use Rattle.judging.proofs.split.second_part.Goals.{After-first_blocks, Else-is_err}
 use Rattle.judging.proofs.split.second_part.Goals as goal
 
 -- past the refusal
-fine : (c : Else-split_refusal-ne0) → let s = c.args in split_refusal s.raw.now s.block_size ≡ 0
-fine c = sym c.split_refusal.ensures ∙ c.if-split_refusal-ne0.false
+fine : (c : Else-is_err) → let s = c.args in split_refusal s.raw.now s.block_size ≡ 0
+fine c = no_refusal _ _ c.split_refusal.ensures (sym c.is_err.ensures.value ∙ c.if-is_err.false)
 
 -- the part's start and end
 starts : (c : After-first_blocks) → let s = c.args in c.first_blocks.result * block_bytes s.block_size ≤ blocks_in s.block_size s.raw.now * block_bytes s.block_size
@@ -27,11 +27,11 @@ starts c =
 ends : (c : After-first_blocks) → let s = c.args in blocks_in s.block_size s.raw.now * block_bytes s.block_size ≤ length s.raw.now
 ends c = let s = c.args in blocks_end s.raw.now s.block_size
 
-pub returns-then-split_refusal-ne0 : goal.returns-then-split_refusal-ne0
+pub returns-then-is_err : goal.returns-then-is_err
 unfolding second_part
-returns-then-split_refusal-ne0 c =
+returns-then-is_err c =
     let s = c.args in
-    let no : eqb (split_refusal s.raw.now s.block_size) 0 ≡ false = ne_eqb _ _ (λ z. c.if-split_refusal-ne0.true (c.split_refusal.ensures ∙ z)) in
+    let no : eqb (split_refusal s.raw.now s.block_size) 0 ≡ false = ne_eqb _ _ (some_refusal _ _ c.split_refusal.ensures (sym c.is_err.ensures.value ∙ c.if-is_err.true)) in
     simp no
 
 pub nonzero_div-blocks : goal.nonzero_div-blocks
@@ -57,4 +57,4 @@ unfolding second_part
 returns c =
     let s = c.args in
     let m = blocks_in s.block_size s.raw.now in
-    simp (fine (goal.at.returns c).Else-split_refusal-ne0, c.first_blocks.ensures, rest_bytes m (first_blocks m s.training) (block_bytes s.block_size) (first_within m s.training))
+    simp (fine (goal.at.returns c).Else-is_err, c.first_blocks.ensures, rest_bytes m (first_blocks m s.training) (block_bytes s.block_size) (first_within m s.training))
