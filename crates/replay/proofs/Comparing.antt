@@ -1,42 +1,36 @@
 -- The comparison of findings: where entries differ, and that a finding whose score is a number is the same as itself.
-use mathlib.Core.Path.{◌≡◌, refl}
-use mathlib.Core.Bool.{Bool, true, false, ◌&&◌}
-use mathlib.Core.List.{List}
-use Prim.Native.Nat.{ℕ, zero, suc, ◌+◌, ◌*◌, ◌<◌, min}
-use native.Mathlib.Numerals.{add-one}
-use native.Mathlib.Decide.{dec_lt}
+use mathlib.Core.Path.{◌≡◌, refl, sym, ap, ◌∙◌}
+use mathlib.Core.Bool.{Bool, true, false, ◌&&◌, beq}
+use mathlib.Core.List.{List, [], ◌∷◌, ◌++◌}
+use Prim.Native.Nat.{ℕ, zero, suc, ◌*◌, ◌≤◌, min}
 use native.Mathlib.Omega.{arith}
 use lib.Dec.{eqb}
 use lib.Ieee.{Float, nan, inf, fin, up, down, eq, is_nan}
-use lib.ListN.{get_or}
+use lib.ListN.{length, get_or, take, length-take}
+use Rattle.std.specs.Cmp.Lexicographic.{pointwise}
+use Rattle.std.proofs.Math.Bool.{and-true, and_assoc}
+use Rattle.std.proofs.Math.Seq.{take-suc}
 use borrow.Author.Tests.{eq-eqb}
 use Rattle.scoring.specs.Score.{Number}
 use Rattle.searching.specs.declared.finding.Finding.{Finding}
 use Rattle.replay.specs.Agreement.{same_to, alike, same_finding}
 
--- one entry more
-pub same_next : (a b : List ℕ) (i : ℕ) → same_to a b i ≡ true → get_or a i 0 ≡ get_or b i 0 → same_to a b (i + 1) ≡ true
+-- one entry more at the end
+pointwise_last : (xs ys : List ℕ) (x y : ℕ) → length xs ≡ length ys → pointwise eqb (xs ++ (x ∷ [])) (ys ++ (y ∷ [])) ≡ (pointwise eqb xs ys && eqb x y)
+pointwise_last [] [] x y e = and-true (eqb x y)
+pointwise_last [] (b ∷ ys) x y e = absurd (omega arith)
+pointwise_last (a ∷ xs) [] x y e = absurd (omega arith)
+pointwise_last (a ∷ xs) (b ∷ ys) x y e =
+    ap (λ (t : Bool). eqb a b && t) (pointwise_last xs ys x y (omega arith)) ∙ sym (and_assoc (eqb a b) (pointwise eqb xs ys) (eqb x y))
+
+-- the first m entries, as slices
+pub slices_same : (a b : List ℕ) (m : ℕ) → m ≤ length a → m ≤ length b → pointwise eqb (take m a) (take m b) ≡ same_to a b m
 unfolding same_to
-same_next a b i e g = rw (add-one, e, eq-eqb _ _ g)
-
-both_false : (t u : Bool) → t ≡ false → t && u ≡ false
-both_false t u e = rw e
-
-and_false : (t u : Bool) → u ≡ false → t && u ≡ false
-and_false true u e = e
-and_false false u e = refl
-
--- entries that differ before m
-pub differ : (a b : List ℕ) (i m : ℕ) → i < m → eqb (get_or a i 0) (get_or b i 0) ≡ false → same_to a b m ≡ false
-unfolding same_to
-differ a b i zero h d = absurd (omega arith)
-differ a b i (suc m) h d = by_place (λ below. differ a b i m below d) (dec_lt i m)
-  where
-    by_place : (i < m → same_to a b m ≡ false) → Dec (i < m) → same_to a b (suc m) ≡ false
-    by_place early (yes below) = both_false (same_to a b m) _ (early below)
-    by_place early (no above) =
-        let last : i ≡ m = omega arith in
-        and_false (same_to a b m) _ (rw (← last) d)
+slices_same a b zero h g = refl
+slices_same a b (suc m) h g =
+    let size : length (take m a) ≡ length (take m b) = simp (length-take) (omega arith) in
+    rw (take-suc a m 0, take-suc b m 0) (pointwise_last (take m a) (take m b) (get_or a m 0) (get_or b m 0) size
+    ∙ ap (λ (t : Bool). t && eqb (get_or a m 0) (get_or b m 0)) (slices_same a b m (omega arith) (omega arith)))
 
 same_self : (a : List ℕ) (m : ℕ) → same_to a a m ≡ true
 unfolding same_to
@@ -51,6 +45,13 @@ eq_self (inf true) n = refl
 eq_self (inf false) n = refl
 eq_self (fin true m e) n = rw (eq-eqb (m * up e * down e) (m * up e * down e) refl)
 eq_self (fin false m e) n = rw (eq-eqb (m * up e * down e) (m * up e * down e) refl)
+
+-- bit orders are alike where they are the same
+pub alike_is : (a b : Bool) → alike a b ≡ beq a b
+alike_is true true = refl
+alike_is true false = refl
+alike_is false true = refl
+alike_is false false = refl
 
 alike_self : (b : Bool) → alike b b ≡ true
 alike_self true = refl

@@ -7,14 +7,14 @@ use native.Mathlib.Nat.{zero-add}
 use native.Mathlib.Numerals.{add-one}
 use native.Mathlib.Omega.{arith}
 use lib.Dec.{eqb}
-use lib.ListN.{length, get_or, take, drop}
-use lib.Seq.{drop-cons, drop-drop, drop-length}
+use lib.ListN.{length, get_or, take, drop, length-drop}
+use lib.Seq.{drop-cons, drop-length}
 use borrow.Author.Tests.{eqb-true, eqb-false, eq-eqb, ne_eqb}
 use Rattle.counting.specs.Sample.{total}
 use Rattle.sampling.specs.Boards.{Feed}
-use Rattle.sampling.specs.Feeding.{fed_of, fed_words}
+use Rattle.sampling.specs.Feeding.{Fed, fed_of, fed_words}
 use Rattle.sampling.specs.Recorded.{State, fed, fed_all, answers_from}
-use Rattle.sampling.specs.declared.feeding.Fed.{Fed}
+use Rattle.sampling.specs.declared.sampler.Sampler.{Sampler}
 use Rattle.replay.specs.Pieces.{cut, refused_one, refused_in, state_of}
 
 pub total_step : (l : List ℕ) (i : ℕ) → i < length l → total (drop i l) ≡ get_or l i 0 + total (drop (i + 1) l)
@@ -37,55 +37,59 @@ pub total_end : (l : List ℕ) (i : ℕ) → i ≡ length l → total (drop i l)
 unfolding total
 total_end l i e = rw (e, drop-length)
 
-pub cut_step : (bytes l : List ℕ) (at i : ℕ) → i < length l
-    → cut (drop at bytes) (drop i l) ≡ record { board = 0; piece = take (get_or l i 0) (drop at bytes) } ∷ cut (drop (at + get_or l i 0) bytes) (drop (i + 1) l)
+cut_step : (rest l : List ℕ) (i : ℕ) → i < length l
+    → cut rest (drop i l) ≡ record { board = 0; piece = take (get_or l i 0) rest } ∷ cut (drop (get_or l i 0) rest) (drop (i + 1) l)
 unfolding cut
-cut_step bytes l at i h = rw (add-one, drop-cons l i 0, drop-drop)
+cut_step rest l i h = rw (add-one, drop-cons l i 0)
 
-pub refused_little : (r one : ℕ) → one ≡ refused_one r → one ≤ 1
-refused_little zero one e = omega arith
-refused_little (suc r) one e = omega arith
+-- a refusal counts as one
+pub counts_one : (r : ℕ) → (r ≡ 0 → ⊥) → 1 ≡ refused_one r
+counts_one zero some = absurd (some refl)
+counts_one (suc r) some = refl
 
--- Before piece i, which starts at byte `at`: the feeds that are left lead from st to where all feeds lead from st₀, and `refused` were refused so far.
-pub record Feeding (bytes lengths : List ℕ) (st₀ st : State) (refused at i : ℕ) : Type 0 where
-  pub place : i ≤ length lengths
-  pub rest : at + total (drop i lengths) ≡ length bytes
-  pub state : fed_all st₀ (cut bytes lengths) ≡ fed_all st (cut (drop at bytes) (drop i lengths))
-  pub count : refused_in (answers_from st₀ (cut bytes lengths)) ≡ refused + refused_in (answers_from st (cut (drop at bytes) (drop i lengths)))
+few_more : (r n : ℕ) → n + refused_one r ≤ n + 1
+few_more zero n = omega arith
+few_more (suc r) n = omega arith
+
+-- Before piece i, with the bytes `rest` left: the feeds that are left lead from st to where all feeds lead from st₀, and `refused` were refused so far.
+pub record Feeding (bytes lengths : List ℕ) (st₀ st : State) (refused i : ℕ) (rest : List ℕ) : Type 0 where
+  pub size : total (drop i lengths) ≡ length rest
+  pub state : fed_all st₀ (cut bytes lengths) ≡ fed_all st (cut rest (drop i lengths))
+  pub count : refused_in (answers_from st₀ (cut bytes lengths)) ≡ refused + refused_in (answers_from st (cut rest (drop i lengths)))
   pub few : refused ≤ i
 
 module _ (bytes lengths : List ℕ) (st₀ : State) where
-  pub feeding_begun : total lengths ≡ length bytes → Feeding bytes lengths st₀ st₀ 0 0 0
-  feeding_begun h = record { place = omega arith; rest = omega arith; state = refl; count = sym (zero-add _); few = omega arith }
+  pub feeding_begun : total lengths ≡ length bytes → Feeding bytes lengths st₀ st₀ 0 0 bytes
+  feeding_begun h = record { size = h; state = refl; count = sym (zero-add _); few = omega arith }
 
-  module _ (st : State) (refused at i : ℕ) (F : Feeding bytes lengths st₀ st refused at i) where
-    pub feeding_within : i < length lengths → at + get_or lengths i 0 ≤ length bytes
-    feeding_within h = omega (arith, F.rest, total_step lengths i h)
+  module _ (st : State) (refused i : ℕ) (rest : List ℕ) (F : Feeding bytes lengths st₀ st refused i rest) where
+    pub feeding_within : i < length lengths → get_or lengths i 0 ≤ length rest
+    feeding_within h = omega (arith, F.size, total_step lengths i h)
 
-    pub feeding_turn : i < length lengths → (p : List ℕ) → p ≡ take (get_or lengths i 0) (drop at bytes)
+    pub feeding_turn : i < length lengths → (p after : List ℕ) → p ≡ take (get_or lengths i 0) rest → after ≡ drop (get_or lengths i 0) rest
         → (r : Fed) (ws' : List ℕ) → r ≡ fed_of st.sampler (length st.words) 0 p → ws' ≡ fed_words st.sampler.head st.sampler.unfinished st.words 0 p
-        → (one : ℕ) → one ≡ refused_one r.refusal
-        → Feeding bytes lengths st₀ (state_of r.sampler ws') (refused + one) (at + get_or lengths i 0) (i + 1)
+        → (s : Sampler) (count : ℕ) → s ≡ r.sampler → count ≡ refused + refused_one r.refusal
+        → Feeding bytes lengths st₀ (state_of s ws') count (i + 1) after
     unfolding fed_all fed answers_from refused_in
-    feeding_turn h p is r ws' e g one o =
-        let step : cut (drop at bytes) (drop i lengths) ≡ record { board = 0; piece = p } ∷ cut (drop (at + get_or lengths i 0) bytes) (drop (i + 1) lengths) =
-        cut_step bytes lengths at i h ∙ ap (λ (q : List ℕ). record { board = 0; piece = q } ∷ cut (drop (at + get_or lengths i 0) bytes) (drop (i + 1) lengths)) (sym is) in
-        let now : state_of r.sampler ws' ≡ fed st (record { board = 0; piece = p }) = λ j. record { sampler = (e j).sampler; words = g j } in
-        let one-is : one ≡ refused_one (fed_of st.sampler (length st.words) 0 p).refusal = o ∙ ap (λ (q : Fed). refused_one q.refusal) e in
+    feeding_turn h p after is left r ws' e g s count l o =
+        let step : cut rest (drop i lengths) ≡ record { board = 0; piece = p } ∷ cut after (drop (i + 1) lengths) =
+        cut_step rest lengths i h ∙ λ j. record { board = 0; piece = sym is j } ∷ cut (sym left j) (drop (i + 1) lengths) in
+        let latest = l ∙ ap (λ (q : Fed). q.sampler) e in
+        let now : state_of s ws' ≡ fed st (record { board = 0; piece = p }) = λ j. record { sampler = latest j; words = g j } in
+        let one-is : count ≡ refused + refused_one (fed_of st.sampler (length st.words) 0 p).refusal = o ∙ ap (λ (q : Fed). refused + refused_one q.refusal) e in
         record {
-          place = omega arith;
-          rest = omega (arith, F.rest, total_step lengths i h);
-          state = F.state ∙ ap (fed_all st) step ∙ ap (λ (q : State). fed_all q (cut (drop (at + get_or lengths i 0) bytes) (drop (i + 1) lengths))) (sym now);
+          size = omega (arith, F.size, total_step lengths i h, ap length left, length-drop (get_or lengths i 0) rest);
+          state = F.state ∙ ap (fed_all st) step ∙ ap (λ (q : State). fed_all q (cut after (drop (i + 1) lengths))) (sym now);
           count = rw now (omega (arith, F.count ∙ ap (λ (ps : List Feed). refused + refused_in (answers_from st ps)) step, one-is));
-          few = omega (arith, F.few, refused_little r.refusal one o);
+          few = omega (arith, F.few, few_more r.refusal refused, o);
         }
 
     -- nothing is left: st is where the feeds lead
-    pub feeding_ended : length lengths ≤ i → (st ≡ fed_all st₀ (cut bytes lengths)) × (refused ≡ refused_in (answers_from st₀ (cut bytes lengths)))
+    pub feeding_ended : i ≡ length lengths → (st ≡ fed_all st₀ (cut bytes lengths)) × (refused ≡ refused_in (answers_from st₀ (cut bytes lengths)))
     unfolding fed_all answers_from refused_in cut
-    feeding_ended h =
-        let none : drop i lengths ≡ [] = let e : i ≡ length lengths = omega (arith, F.place) in rw e (drop-length lengths) in (
-          sym (F.state ∙ ap (λ (l : List ℕ). fed_all st (cut (drop at bytes) l)) none),
+    feeding_ended e =
+        let none : drop i lengths ≡ [] = rw e (drop-length lengths) in (
+          sym (F.state ∙ ap (λ (l : List ℕ). fed_all st (cut rest l)) none),
           (let c : refused_in (answers_from st₀ (cut bytes lengths)) ≡ refused + 0 =
-              F.count ∙ ap (λ (l : List ℕ). refused + refused_in (answers_from st (cut (drop at bytes) l))) none in omega arith),
+              F.count ∙ ap (λ (l : List ℕ). refused + refused_in (answers_from st (cut rest l))) none in omega arith),
         )

@@ -1,8 +1,8 @@
--- What a replay that is not refused may take for granted, and what one that is leaves.
-use mathlib.Core.Path.{◌≡◌, refl}
-use mathlib.Core.Bool.{Bool, true}
+-- What a replay that is not refused may take for granted.
+use mathlib.Core.Path.{◌≡◌}
+use mathlib.Core.Bool.{true}
 use mathlib.Core.List.{List}
-use Prim.Native.Nat.{ℕ, zero, suc, ◌^◌, ◌≤◌}
+use Prim.Native.Nat.{ℕ, ◌^◌, ◌≤◌}
 use native.Mathlib.Omega.{arith}
 use lib.Dec.{eqb}
 use borrow.Author.Tests.{eqb-true}
@@ -11,9 +11,7 @@ use Rattle.searching.specs.Refusal.{width_refusal, buffer_refusal}
 use Rattle.counting.proofs.Accepted.{passed}
 use Rattle.searching.proofs.Refusing.{Width, width_free, buffer_free, neither}
 use Rattle.counting.specs.Sample.{total}
-use Rattle.sampling.specs.Boards.{Feed}
-use Rattle.replay.specs.Replay.{replay_refusal, refused_replay, ReplayOf}
-use Rattle.replay.specs.declared.replay.Replayed.{Replayed}
+use Rattle.replay.specs.Replay.{replay_refusal}
 
 pub record ReplayFree (B bytes : ℕ) (lengths : List ℕ) (k bins order : ℕ) : Type 0 where
   pub adds_up : total lengths ≡ bytes
@@ -37,16 +35,3 @@ replay_free B bytes lengths k bins order e =
       width = width_free B k w.0;
       room = buffer_free k bins order w.1;
     }
-
--- a replay that is refused leaves everything as lent
-pub as_lent : (r B : ℕ) (low : Bool) (pieces : List Feed) (k : ℕ) (ws store bins order : List ℕ) (answer : Replayed)
-    → (r ≡ 0 → ⊥) → answer ≡ refused_replay r → ReplayOf r B low pieces k ws store bins order answer ws store bins order
-as_lent zero B low pieces k ws store bins order answer some e = absurd (some refl)
-as_lent (suc r) B low pieces k ws store bins order answer some e = record {
-  answered = e;
-  written = refl;
-  counted = refl;
-  ordered = refl;
-  stored = refl;
-  best = λ z. absurd (some z);
-}

@@ -13,21 +13,19 @@ use Rattle.counting.specs.Words.{stored_bit}
 use Rattle.sampling.specs.Boards.{Feed, boards_of, recording}
 use Rattle.sampling.specs.Feeding.{fed_of, fed_words}
 use Rattle.sampling.specs.Recorded.{State, started, fed, fed_all, answers_from, sampler_of, HoldsRecording}
-use Rattle.sampling.specs.Sampler.{started_of, started_words, blocks_of}
+use Rattle.sampling.specs.Sampler.{Started, started_of, started_words, blocks_of}
 use Rattle.sampling.specs.declared.sampler.Head.{Head}
 use Rattle.sampling.specs.declared.sampler.Sampler.{Sampler}
-use Rattle.sampling.specs.declared.sampler.Started.{Started}
 use Rattle.layers.specs.Store.{store_suffices}
 use Rattle.scoring.specs.Score.{Number}
 use Rattle.ranking.specs.Order.{order_of}
 use Rattle.ranking.proofs.Dividing.{score_number}
 use Rattle.searching.specs.Claim.{Acquisition, fresh, next, BestOf, SearchClaim, Claim}
-use Rattle.searching.specs.Finding.{winner_of}
+use Rattle.searching.specs.Finding.{Searched, winner_of}
 use Rattle.searching.specs.Refusal.{bottomup_refusal}
 use Rattle.searching.specs.Search.{Search, StretchSearch, BottomupSearch, store_after}
 use Rattle.searching.specs.Stretches.{sample_of}
 use Rattle.searching.specs.declared.finding.Finding.{Finding}
-use Rattle.searching.specs.declared.finding.Searched.{Searched}
 use Rattle.searching.proofs.Claiming.{claims, recorder}
 use Rattle.searching.proofs.Filled.{replaced_rest, length_counts, length_order}
 use Rattle.searching.proofs.Refusing.{said_is}
@@ -72,6 +70,11 @@ module _ (B : ℕ) (low : Bool) (ws : List ℕ) (pieces : List Feed) (ok : valid
   -- its n is the recording's
   pub blocks_are : blocks_of (state_after B low ws pieces).sampler.head ≡ blocks_in B (recording B (length ws) [] pieces)
   blocks_are = (whole_recordings B low ws [] pieces _ _ _ acquired).blocks
+
+-- a start that is not refused
+pub not_refused : (B : ℕ) (low : Bool) (words : ℕ) (r : Started) → valid_size B ≡ true → r ≡ started_of B low words → r.refusal ≡ 0
+unfolding started_of
+not_refused B low words r ok e = ap (λ (q : Started). q.refusal) e ∙ simp ok
 
 -- the state after start
 pub fresh_is : (B : ℕ) (low : Bool) (ws : List ℕ) (r : Started) (ws₁ : List ℕ) → r ≡ started_of B low (length ws) → ws₁ ≡ started_words B ws → state_of r.sampler ws₁ ≡ started B low ws
@@ -184,16 +187,28 @@ module _ (B : ℕ) (low : Bool) (ws : List ℕ) (pieces : List Feed) (bytes : �
         let all : blocks - 0 ≡ blocks_in B held = sub-zero blocks ∙ blocks_are B low ws pieces free.valid in
         claimed.stored succeeds ∙ λ i. store_after 0 (store_suffices B k (length store₁)) (from i) (all i) B k store₁
 
-  module _ (taken : Taken) (stored direct : Searched) (ws' store' bins₁ order₁ none none' bins' order' : List ℕ)
-      (is : state_of taken.sampler ws' ≡ state_after B low ws pieces)
-      (made-stored : BottomupSearch taken.sampler.head ws' 0 (blocks_of taken.sampler.head) k store bins order stored store' bins₁ order₁)
-      (made-direct : BottomupSearch taken.sampler.head ws' 0 (blocks_of taken.sampler.head) k none bins₁ order₁ direct none' bins' order')
+  -- a search of all blocks of the sampler that the feeds left
+  module _ (taken : Taken) (ws' : List ℕ) (is : state_of taken.sampler ws' ≡ state_after B low ws pieces) (n : ℕ) (all : n ≡ blocks_of taken.sampler.head)
+      (store₁ bins₁ order₁ : List ℕ) (r : Searched) (store₁' bins₁' order₁' : List ℕ)
+      (made : BottomupSearch taken.sampler.head ws' 0 n k store₁ bins₁ order₁ r store₁' bins₁' order₁') where
+    moved : BottomupSearch st.sampler.head st.words 0 blocks k store₁ bins₁ order₁ r store₁' bins₁' order₁'
+    moved =
+        subst (λ (q : State). BottomupSearch q.sampler.head q.words 0 (blocks_of q.sampler.head) k store₁ bins₁ order₁ r store₁' bins₁' order₁') is
+        (subst (λ (m : ℕ). BottomupSearch taken.sampler.head ws' 0 m k store₁ bins₁ order₁ r store₁' bins₁' order₁') all made)
+
+    pub search_succeeds : length bins₁ ≡ length bins → length order₁ ≡ length order → r.refusal ≡ 0
+    search_succeeds same-bins same_order = succeeds store₁ bins₁ order₁ r store₁' bins₁' order₁' moved same-bins same_order
+
+  module _ (taken : Taken) (n : ℕ) (stored direct : Searched) (ws' store' bins₁ order₁ none none' bins' order' : List ℕ)
+      (is : state_of taken.sampler ws' ≡ state_after B low ws pieces) (all : n ≡ blocks_of taken.sampler.head)
+      (made-stored : BottomupSearch taken.sampler.head ws' 0 n k store bins order stored store' bins₁ order₁)
+      (made-direct : BottomupSearch taken.sampler.head ws' 0 n k none bins₁ order₁ direct none' bins' order')
       (same-bins : length bins₁ ≡ length bins) (same_order : length order₁ ≡ length order) where
     S : BottomupSearch st.sampler.head st.words 0 blocks k store bins order stored store' bins₁ order₁
-    S = subst (λ (q : State). BottomupSearch q.sampler.head q.words 0 (blocks_of q.sampler.head) k store bins order stored store' bins₁ order₁) is made-stored
+    S = moved taken ws' is n all store bins order stored store' bins₁ order₁ made-stored
 
     D : BottomupSearch st.sampler.head st.words 0 blocks k none bins₁ order₁ direct none' bins' order'
-    D = subst (λ (q : State). BottomupSearch q.sampler.head q.words 0 (blocks_of q.sampler.head) k none bins₁ order₁ direct none' bins' order') is made-direct
+    D = moved taken ws' is n all none bins₁ order₁ direct none' bins' order' made-direct
 
     -- the claim says that both found the same, and the score is a number
     agreed : same_finding stored.finding direct.finding ≡ true

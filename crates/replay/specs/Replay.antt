@@ -1,7 +1,9 @@
 -- What a replay promises: its answer, and every lent entry afterwards.
-use Rattle.std.specs.Prelude.{◌≡◌, ℕ, zero, suc, Bool, true, false, cond, List, [], eqb, length}
+use Rattle.std.specs.Prelude.{◌≡◌, ℕ, zero, suc, Bool, true, false, cond, List, [], Result, Ok, Err, eqb, length}
 use Rattle.counting.specs.Block.{valid_size}
 use Rattle.counting.specs.Recording.{blocks_in, recorded_bit}
+use Rattle.counting.specs.Refusal.{number_of}
+use Rattle.counting.specs.declared.refusal.Refusal.{Refusal}
 use Rattle.layers.specs.Store.{store_suffices}
 use Rattle.searching.specs.Claim.{BestOf}
 use Rattle.searching.specs.Finding.{winner_of, finding_of, no_finding}
@@ -12,7 +14,7 @@ use Rattle.counting.specs.Sample.{total}
 use Rattle.sampling.specs.Boards.{Feed, recording, refusals_of}
 use Rattle.sampling.specs.Recorded.{started, fed_all}
 use Rattle.replay.specs.Pieces.{cut, refused_in}
-use Rattle.replay.specs.declared.replay.Replayed.{Replayed}
+use Rattle.replay.specs.declared.replay.Replayed.{Replayed as Answer}
 
 -- 24: the lengths do not add up to the recording's; then start's 1, and the search's 2, 3, 7. A fresh sampler is never refused 4, and a feed that is refused
 -- 5 is counted.
@@ -20,9 +22,23 @@ unfoldable pub replay_refusal : ℕ → ℕ → List ℕ → ℕ → ℕ → ℕ
 replay_refusal B bytes lengths k bins order =
     cond (eqb (total lengths) bytes) (cond (valid_size B) (or_else (width_refusal B k) (buffer_refusal k bins order)) 1) 24
 
+-- what a replay answers: a refusal, 0 where there is none, how many feeds were refused, whether the store sufficed for a search by layers, whether the findings
+-- of the two searches are the same, and the finding
+pub record Replayed : Type 0 where
+  pub refusal : ℕ
+  pub refused : ℕ
+  pub layered : Bool
+  pub agree : Bool
+  pub finding : Finding
+
 -- beside a refusal every field is 0 or false
 abbrev pub refused_replay : ℕ → Replayed
 refused_replay r = record { refusal = r; refused = 0; layered = false; agree = false; finding = no_finding }
+
+-- the answer as code has it
+abbrev pub as_replayed : Result Answer Refusal → Replayed
+as_replayed (Ok a) = record { refusal = 0; refused = a.refused; layered = a.layered; agree = a.agree; finding = a.finding }
+as_replayed (Err r) = refused_replay (number_of r)
 
 -- the finding of width k in a recording in this bit order whose blocks are `held`
 abbrev pub held_finding : ℕ → Bool → List ℕ → ℕ → Finding

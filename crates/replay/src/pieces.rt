@@ -1,7 +1,7 @@
 // A recording in pieces: whether their lengths add up, and the feeding of them.
 ghost use Rattle.std.specs.Prelude.{◌≡◌, eqb, length};
 ghost use Rattle.counting.specs.Sample.{total};
-ghost use Rattle.replay.specs.Pieces.{cut, refused_one, FedPieces};
+ghost use Rattle.replay.specs.Pieces.{cut, FedPieces};
 
 use sampling::feeding::feed;
 use sampling::sampler::Sampler;
@@ -18,14 +18,11 @@ pub fn adds_up(lengths: &[usize], bytes: usize) -> bool
     ensures { result ≡ eqb (total lengths.now) bytes }
 {
     let mut left = bytes;
-    let mut i = 0;
-    while i < lengths.len() {
-        let n = lengths[i];
-        if n > left {
+    for n in lengths {
+        let Some(rest) = left.checked_sub(*n) else {
             return false;
-        }
-        left -= n;
-        i += 1;
+        };
+        left = rest;
     }
     left == 0
 }
@@ -41,26 +38,18 @@ pub fn feed_pieces(
     ensures { FedPieces sampler words.old (cut recording.now lengths.now) result words.new }
 {
     let mut latest = sampler;
-    let mut refused: usize = 0;
-    let mut at: usize = 0;
-    let mut i: usize = 0;
-    while i < lengths.len() {
-        let end = at + lengths[i];
-        let fed = feed(latest, words, 0, &recording[at..end]);
-        latest = fed.sampler;
-        refused += refused_one(fed.refusal);
-        at = end;
-        i += 1;
+    let mut refused = 0;
+    let mut rest = recording;
+    for length in lengths {
+        let (piece, after) = rest.split_at(*length);
+        rest = after;
+        match feed(latest, words, 0, piece) {
+            Ok(fed) => latest = fed,
+            Err(_) => refused += 1,
+        }
     }
     Taken {
         sampler: latest,
         refused,
     }
-}
-
-// 1 for a refusal, 0 where there is none.
-fn refused_one(refusal: u32) -> usize
-    ensures { result ≡ refused_one refusal }
-{
-    if refusal == 0 { 0 } else { 1 }
 }
