@@ -235,9 +235,6 @@ code_init B E k q l e le h =
     let h' : Subset B (suc q) (take (suc q) l) = rw e at h in
     subset_below (get_or l q 0) E q (take q l) le (subset_init B q (take q l) (get_or l q 0) (split B q l (fills B (suc q) l h') h'))
 
-pub code_empty : (B k : ℕ) (l : List ℕ) → k ≡ 0 → Stepped B k l false l
-code_empty B k l e = rw e (record { next = λ x. absurd (false≢true x); last = λ _. none_after_empty B [] refl; same = λ _. refl; rest = refl })
-
 pub code_bump : (B k q v : ℕ) (l : List ℕ) → k ≡ suc q → Subset B k (take k l) → v ≡ suc (get_or l q 0) → v < B → Stepped B k l true (set l q v)
 code_bump B k q v l e h ev b =
     let h' : Subset B (suc q) (take (suc q) l) = rw e at h in

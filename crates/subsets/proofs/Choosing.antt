@@ -1,11 +1,11 @@
 -- Binomials: each from the one before it in its row, their symmetry, and that they rise up to the row's middle.
 use mathlib.Core.Path.{◌≡◌, refl, sym, ap, ap₂, subst, ◌∙◌}
 use mathlib.Core.Logic.{◌⊎◌, inl, inr}
-use Prim.Native.Nat.{ℕ, zero, suc, ◌+◌, ◌-◌, ◌*◌, ◌/◌, ◌^◌, ◌≤◌, ◌<◌}
+use Prim.Native.Nat.{ℕ, zero, suc, ◌+◌, ◌-◌, ◌*◌, ◌/◌, ◌^◌, ◌≤◌, ◌<◌, min}
 use native.Mathlib.Nat.{zero-mul, mul-suc, add-mul, suc-sub-suc, zero-add, div-eq_of_eq-mul_left, mul-le-mul, mul-le-mul_left, le_of_mul-le-mul_right, le_trans, le_of_eq, eq-or-lt_of_le, min-eq_left, min-eq_right}
 use native.Mathlib.Numerals.{add-one}
 use native.Mathlib.Omega.{arith}
-use Rattle.subsets.specs.Choose.{choose, choose_up_to}
+use Rattle.subsets.specs.Choose.{choose, up_to, choose_up_to}
 
 pub none_beyond : (n r : ℕ) → n < r → choose n r ≡ 0
 none_beyond n zero h = absurd (omega arith)
@@ -105,6 +105,9 @@ turn_fits n i c h l = let x : n - i ≤ 2 ^ 32 - 1 = omega arith in omega (arith
 pub past_row : (n r : ℕ) → n < r → 0 ≡ choose_up_to n r
 past_row n r h = exact n r 0 (sym (none_beyond n r h)) (omega arith)
 
-pub other_half : (n r c : ℕ) → r ≤ n → c ≡ choose_up_to n (n - r) → c ≡ choose_up_to n r
+pub either_half : (n r h c : ℕ) → r ≤ n → h ≡ min r (n - r) → c ≡ choose_up_to n h → c ≡ choose_up_to n r
 unfolding choose_up_to
-other_half n r c h e = rw (choose_other n r h) at e
+either_half n r h c l e f = f ∙ ap up_to (elim (le_or_lt r (n - r)) [
+  | inl q ↦ ap (choose n) (e ∙ min-eq_left q)
+  | inr q ↦ ap (choose n) (e ∙ min-eq_right (omega arith)) ∙ choose_other n r l
+])

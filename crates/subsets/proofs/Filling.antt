@@ -1,12 +1,13 @@
 -- The bit array: a subset in its first entries and 0 in the others, and the array of the first subset, filled entry by entry.
-use mathlib.Core.Path.{◌≡◌, refl, sym, ap, subst, ◌∙◌}
+use mathlib.Core.Path.{◌≡◌, refl, sym, ap, ap₂, ◌∙◌}
 use Prim.Native.Nat.{ℕ, zero, suc, ◌+◌, ◌-◌, ◌≤◌, ◌<◌}
 use native.Mathlib.Nat.{zero-add}
 use native.Mathlib.Numerals.{add-one}
 use native.Mathlib.Omega.{arith}
 use mathlib.Core.List.{List, [], ◌∷◌, ◌++◌}
-use lib.ListN.{length, take, drop, set, replicate, length-set, length-append, length-replicate, take-append-drop}
-use lib.Seq.{take-suc-set, drop-set-lt, take_at, drop_at, length-take-le}
+use lib.ListN.{length, take, drop, set, replicate, length-append, length-replicate, take-append-drop}
+use lib.Seq.{take-suc-set, take_at, drop_at, length-take-le, take_all}
+use Rattle.std.proofs.lemmas.List.{drop-replicate}
 use Rattle.subsets.specs.Subsets.{numbers_from, padded}
 
 -- ---- what an array holds
@@ -37,23 +38,12 @@ drop_next (suc q) [] = refl
 drop_next (suc q) (x ∷ m) = drop_next q m
 
 -- its first i entries are written
-pub record Filled (i : ℕ) (l : List ℕ) : Type 0 where
-  pub size : length l ≡ 20
-  pub front : take i l ≡ numbers_from 0 i
-  pub rest : drop i l ≡ replicate (20 - i) 0
+pub fill : (i : ℕ) (l : List ℕ) → i < length l → take i l ≡ numbers_from 0 i → take (i + 1) (set l i i) ≡ numbers_from 0 (i + 1)
+fill i l h e =
+    rw add-one
+    (take-suc-set l i i h ∙ ap (λ (s : List ℕ). s ++ (i ∷ [])) e ∙ ap (λ (x : ℕ). numbers_from 0 i ++ (x ∷ [])) (sym (zero-add i)) ∙ sym (numbers_snoc 0 i))
 
-pub fill : (i : ℕ) (l : List ℕ) → i < 20 → Filled i l → Filled (i + 1) (set l i i)
-fill i l h f =
-    let room : i < length l = omega (arith, f.size) in
-    let e : 20 - i ≡ suc (20 - suc i) = omega arith in
-    let r : drop i l ≡ replicate (suc (20 - suc i)) 0 = f.rest ∙ ap (λ (n : ℕ). replicate n 0) e in
-    rw add-one (record {
-      size = length-set l i i ∙ f.size;
-      front = take-suc-set l i i room ∙ ap (λ (s : List ℕ). s ++ (i ∷ [])) f.front ∙ ap (λ (x : ℕ). numbers_from 0 i ++ (x ∷ [])) (sym (zero-add i)) ∙ sym (numbers_snoc 0 i);
-      rest = drop-set-lt (suc i) l i i (omega arith) ∙ drop_next i l ∙ ap (drop 1) r;
-    })
-
-pub filled : (i k : ℕ) (l : List ℕ) → i ≡ k → k ≤ 20 → Filled i l → l ≡ padded (numbers_from 0 k)
-filled i k l e h f =
-    let g : Filled k l = subst (λ (j : ℕ). Filled j l) e f in
-    padded_of k l (omega (arith, g.size)) g.rest ∙ ap padded g.front
+pub filled : (k : ℕ) (l : List ℕ) → k ≤ 20 → length l ≡ k → take k l ≡ numbers_from 0 k → l ++ drop k (replicate 20 0) ≡ padded (numbers_from 0 k)
+filled k l h n e =
+    let is : l ≡ numbers_from 0 k = sym (take_all k l (omega arith)) ∙ e in
+    ap₂ ◌++◌ is (drop-replicate k 20 0 ∙ ap (λ (m : ℕ). replicate (20 - m) 0) (sym (ap length (sym is) ∙ n)))

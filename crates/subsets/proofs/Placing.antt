@@ -3,8 +3,8 @@ use mathlib.Core.Path.{◌≡◌, sym, ap, ◌∙◌}
 use Prim.Native.Nat.{ℕ, suc, ◌+◌, ◌-◌, ◌^◌, ◌≤◌, ◌<◌}
 use native.Mathlib.Numerals.{add-one}
 use native.Mathlib.Omega.{arith}
-use mathlib.Core.List.{List, []}
-use lib.ListN.{length, drop, get_or, length-drop, drop_of_length-le}
+use mathlib.Core.List.{List}
+use lib.ListN.{length, drop, get_or, length-drop}
 use lib.Seq.{drop-cons}
 use Rattle.subsets.specs.Subsets.{Subset}
 use Rattle.subsets.specs.Choose.{choose, choose_up_to}
@@ -14,7 +14,6 @@ use Rattle.subsets.proofs.Ranking.{ranks}
 
 -- with j bits visited, what is left: the subsets before s and, of those after it, the ones that agree with it in these j bits; so it never falls below the rank
 pub record Placing (B : ℕ) (s : List ℕ) (number j : ℕ) : Type 0 where
-  pub within : j ≤ length s
   pub few : number < 2 ^ 32
   pub left : number ≡ rank_of B s + ways_above B (drop j s)
 
@@ -29,7 +28,6 @@ module _ (B : ℕ) (s : List ℕ) where
 
     pub placed : Placing B s (c - 1) 0
     placed = record {
-      within = omega arith;
       few = omega (arith, told B (length s) c e few, all_told);
       left = omega (arith, all_told);
     }
@@ -51,12 +49,6 @@ module _ (B : ℕ) (s : List ℕ) where
 
     pub stepped : Placing B s (number - c) (j + 1)
     stepped = rw (add-one j) (record {
-      within = h;
       few = omega (arith, p.few);
       left = omega (arith, visited, exactly);
     })
-
-  pub all_placed : (number j : ℕ) → length s ≤ j → Placing B s number j → number ≡ rank_of B s
-  all_placed number j h p =
-      let e : number ≡ rank_of B s + ways_above B [] = p.left ∙ ap (λ (l : List ℕ). rank_of B s + ways_above B l) (drop_of_length-le s h) in
-      omega (arith, e)

@@ -8,13 +8,11 @@ fn choose_lower(n: usize, r: usize) -> usize
     ensures { result ≡ choose_up_to n r }
 {
     let mut c: usize = 1;
-    let mut i: usize = 0;
-    while i < r {
+    for i in 0..r {
         c = c * (n - i) / (i + 1);
         if c > 4294967296 {
             return 4294967297;
         }
-        i += 1;
     }
     c
 }
@@ -27,8 +25,5 @@ pub fn choose_up_to(n: usize, r: usize) -> usize
     if r > n {
         return 0;
     }
-    if r > n - r {
-        return choose_lower(n, n - r);
-    }
-    choose_lower(n, r)
+    choose_lower(n, r.min(n - r))
 }

@@ -16,10 +16,8 @@ pub fn rank_of(block_size: usize, bits: &[u32]) -> usize
     ensures { result ≡ rank_of block_size bits.now }
 {
     let mut result: usize = choose_up_to(block_size, bits.len()) - 1;
-    let mut j: usize = 0;
-    while j < bits.len() {
-        result -= choose_up_to(block_size - 1 - bits[j] as usize, bits.len() - j);
-        j += 1;
+    for (j, bit) in bits.iter().enumerate() {
+        result -= choose_up_to(block_size - 1 - *bit as usize, bits.len() - j);
     }
     result
 }

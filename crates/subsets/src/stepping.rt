@@ -9,10 +9,8 @@ pub fn first(k: usize) -> [u32; 20]
     ensures { result ≡ padded (numbers_from 0 k) }
 {
     let mut bits = [0u32; 20];
-    let mut i: usize = 0;
-    while i < k {
-        bits[i] = i as u32;
-        i += 1;
+    for (i, bit) in bits[..k].iter_mut().enumerate() {
+        *bit = i as u32;
     }
     bits
 }

@@ -1,6 +1,4 @@
 -- `pascal::coefficient` meets its contract: what the table has is read there, whatever stands in it, and all else worked out.
-use Prim.Native.Nat.{◌+◌, ◌*◌}
-use native.Mathlib.Omega.{arith}
 use Rattle.subsets.proofs.Tabling.{read_there, past_rows, past_columns}
 use Rattle.subsets.proofs.pascal.coefficient.Goals as goal
 
@@ -13,11 +11,6 @@ pub returns-then-past_columns : goal.returns-then-past_columns
 returns-then-past_columns c =
     let a = c.args in
     past_columns a.table.now a.n a.r c.choose_up_to-then-past_columns.result c.if-past_rows.false c.if-past_columns.true c.choose_up_to-then-past_columns.ensures
-
-pub overflow_cast-result : goal.overflow_cast-result
-overflow_cast-result c =
-    let a = c.args in
-    omega (arith, c.shared_slice_known-2-1.given (4 * a.n + a.r))
 
 pub returns : goal.returns
 returns c =

@@ -1,22 +1,16 @@
 -- `rank::rank_of` meets its contract. The loop's invariant: `Placing`.
-use Prim.Native.Nat.{◌≤◌, ◌<◌}
+use Prim.Native.Nat.{◌<◌}
 use native.Mathlib.Omega.{arith}
 use lib.ListN.{length, get_or}
 use Rattle.subsets.proofs.Listing.{bits_below}
-use Rattle.subsets.proofs.Placing.{one_fits, placed, fits, stepped, all_placed}
-use Rattle.subsets.proofs.rank.rank_of.Goals.{After-choose_up_to-result-in-loop-j, In-loop-j}
+use Rattle.subsets.proofs.Placing.{one_fits, placed, fits, stepped}
+use Rattle.subsets.proofs.rank.rank_of.Goals.{In-loop-j}
 use Rattle.subsets.proofs.rank.rank_of.Goals as goal
 
 -- in the loop the bit is in the block
 inside : (d : In-loop-j) → get_or d.args.bits.now d.loop-j.j 0 < d.args.block_size
 inside d =
     bits_below d.args.block_size (length d.args.bits.now) d.args.bits.now d.requires.2 d.loop-j.j d.loop-j-test.true
-
--- what the bit takes away is there
-enough : (d : After-choose_up_to-result-in-loop-j) → d.choose_up_to-result-in-loop-j.result ≤ d.loop-j.result
-enough d =
-    let n = d.loop-j in
-    fits d.args.block_size d.args.bits.now n.result n.j n.invariant d.loop-j-test.true d.choose_up_to-result-in-loop-j.result d.choose_up_to-result-in-loop-j.ensures
 
 pub overflow_sub-result : goal.overflow_sub-result
 overflow_sub-result c =
@@ -29,24 +23,15 @@ loop-j-init c =
 pub overflow_sub-block_size : goal.overflow_sub-block_size
 overflow_sub-block_size c = omega (arith, inside c)
 
-pub overflow_cast-bits : goal.overflow_cast-bits
-overflow_cast-bits c = omega (arith, c.shared_slice_known-in-loop-j-1.given c.loop-j.j)
-
 pub overflow_sub-block_size-in-loop-j : goal.overflow_sub-block_size-in-loop-j
 overflow_sub-block_size-in-loop-j c = omega (arith, inside (goal.at.overflow_sub-block_size-in-loop-j c).In-loop-j)
 
-pub choose_up_to-result-requires-in-loop-j : goal.choose_up_to-result-requires-in-loop-j
-choose_up_to-result-requires-in-loop-j c = omega (arith, c.requires.0)
-
 pub overflow_sub-result-in-loop-j : goal.overflow_sub-result-in-loop-j
-overflow_sub-result-in-loop-j c = omega (arith, enough c)
+overflow_sub-result-in-loop-j c =
+    let n = c.loop-j in
+    fits c.args.block_size c.args.bits.now n.result n.j n.invariant c.loop-j-test.true c.choose_up_to-result-in-loop-j.result c.choose_up_to-result-in-loop-j.ensures
 
 pub loop-j-preserved : goal.loop-j-preserved
 loop-j-preserved c =
     let n = c.loop-j in
     stepped c.args.block_size c.args.bits.now n.result n.j n.invariant c.loop-j-test.true c.choose_up_to-result-in-loop-j.result c.choose_up_to-result-in-loop-j.ensures
-
-pub returns : goal.returns
-returns c =
-    let n = c.loop-j in
-    all_placed c.args.block_size c.args.bits.now n.result n.j c.loop-j-test.false n.invariant

@@ -1,47 +1,17 @@
 -- `stepping::successor` meets its contract. The measure is k, the number of bits that are left to step.
 use mathlib.Core.Path.{◌≡◌}
-use lib.ListN.{length, get_or, length-set}
+use lib.ListN.{get_or}
 use native.Mathlib.Omega.{arith}
-use Rattle.subsets.proofs.Carrying.{fills, code_empty, code_last, code_init, code_bump, code_carry, code_ended, code_some}
-use Prim.Native.Nat.{ℕ, suc, ◌+◌, ◌-◌, ◌≤◌, ◌<◌}
+use Rattle.subsets.proofs.Carrying.{code_last, code_init, code_bump, code_carry, code_ended, code_some}
+use Prim.Native.Nat.{ℕ, suc, ◌+◌, ◌-◌, ◌<◌}
 use Rattle.subsets.proofs.stepping.+successor.Goals.{Start}
 use Rattle.subsets.proofs.stepping.+successor.Goals as goal
-
--- a subset fills its k entries
-room : (t : ℕ) (s : Start t) → s.args.k ≤ length s.args.bits.now
-room t s = fills s.args.block_size s.args.k s.args.bits.now s.requires.1
 
 -- its last bit is in the block
 inside : (t : ℕ) (s : Start t) → (s.args.k ≡ 0 → ⊥) → get_or s.args.bits.now (s.args.k - 1) 0 < s.args.block_size
 inside t s h =
     let e : s.args.k ≡ suc (s.args.k - 1) = omega arith in
     code_last s.args.block_size s.args.k (s.args.k - 1) s.args.bits.now e s.requires.1
-
-pub returns-then-k-eq0 : goal.returns-then-k-eq0
-returns-then-k-eq0 t c =
-    let a = c.args in
-    code_empty a.block_size a.k a.bits.now c.if-k-eq0.true
-
-pub overflow_sub-end : goal.overflow_sub-end
-overflow_sub-end t c = omega (arith, inside t (goal.at.overflow_sub-end t c).Start c.if-k-eq0.false)
-
-pub offset_bounds-bits-at : goal.offset_bounds-bits-at
-offset_bounds-bits-at t c = omega (arith, room t (goal.at.offset_bounds-bits-at t c).Start)
-
-pub bounds-bits-at : goal.bounds-bits-at
-bounds-bits-at t c = omega (arith, room t (goal.at.bounds-bits-at t c).Start)
-
-pub overflow_cast-bit : goal.overflow_cast-bit
-overflow_cast-bit t c = omega (arith, c.slice_known-2-1.given (c.args.k - 1))
-
-pub offset_bounds-bits-at-then-bit-end : goal.offset_bounds-bits-at-then-bit-end
-offset_bounds-bits-at-then-bit-end t c = omega (arith, room t (goal.at.offset_bounds-bits-at-then-bit-end t c).Start)
-
-pub bounds-bits-at-then-bit-end : goal.bounds-bits-at-then-bit-end
-bounds-bits-at-then-bit-end t c = omega (arith, room t (goal.at.bounds-bits-at-then-bit-end t c).Start)
-
-pub shape_of-bits-then-bit-end : goal.shape_of-bits-then-bit-end
-shape_of-bits-then-bit-end t c = simp length-set
 
 pub returns-then-bit-end : goal.returns-then-bit-end
 returns-then-bit-end t c =
@@ -56,9 +26,6 @@ successor-requires t c =
       (omega arith, code_init a.block_size (a.block_size - 1) a.k (a.k - 1) a.bits.now (omega arith) (omega arith) c.requires.1),
     )
 
-pub shape_of-bits-then-not-successor : goal.shape_of-bits-then-not-successor
-shape_of-bits-then-not-successor t c = c.successor.auto.bits
-
 pub returns-then-not-successor : goal.returns-then-not-successor
 returns-then-not-successor t c =
     let a = c.args in
@@ -70,37 +37,12 @@ returns-then-not-successor t c =
     c.if-not-successor.true
     r.ensures
 
-pub overflow_sub-bits : goal.overflow_sub-bits
-overflow_sub-bits t c =
-    let a = c.args in
-    let r = c.successor in
-    (code_some (a.block_size - 1) (a.k - 1) a.bits.now r.new.bits r.result c.if-not-successor.false r.ensures).0
-
-pub offset_bounds-bits-at-2 : goal.offset_bounds-bits-at-2
-offset_bounds-bits-at-2 t c =
-    omega (arith, c.well_formed, room t (goal.at.offset_bounds-bits-at-2 t c).Start)
-
-pub bounds-bits-at-2 : goal.bounds-bits-at-2
-bounds-bits-at-2 t c =
-    omega (arith, c.successor.auto.bits, room t (goal.at.bounds-bits-at-2 t c).Start, c.if-k-eq0.false)
-
 pub overflow_add-bits-2 : goal.overflow_add-bits-2
 overflow_add-bits-2 t c =
     let a = c.args in
     let r = c.successor in
     let some = code_some (a.block_size - 1) (a.k - 1) a.bits.now r.new.bits r.result c.if-not-successor.false r.ensures in
     omega (arith, some.1, c.requires.0)
-
-pub offset_bounds-bits-at-3 : goal.offset_bounds-bits-at-3
-offset_bounds-bits-at-3 t c =
-    omega (arith, c.well_formed, room t (goal.at.offset_bounds-bits-at-3 t c).Start)
-
-pub bounds-bits-at-3 : goal.bounds-bits-at-3
-bounds-bits-at-3 t c =
-    omega (arith, c.successor.auto.bits, room t (goal.at.bounds-bits-at-3 t c).Start, c.if-k-eq0.false)
-
-pub shape_of-bits : goal.shape_of-bits
-shape_of-bits t c = simp length-set c.successor.auto.bits
 
 pub returns : goal.returns
 returns t c =

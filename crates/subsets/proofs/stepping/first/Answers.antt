@@ -1,15 +1,17 @@
--- `stepping::first` meets its contract. The loop's invariant: the first i entries are 0, 1, .., i - 1, and the others are 0.
-use mathlib.Core.Path.{refl}
+-- `stepping::first` meets its contract.
+use mathlib.Core.Path.{◌≡◌, ◌∙◌, subst}
+use Prim.Native.Nat.{ℕ}
+use lib.ListN.{take, length-set}
 use native.Mathlib.Omega.{arith}
+use Rattle.subsets.specs.Subsets.{numbers_from}
 use Rattle.subsets.proofs.Filling.{fill, filled}
 use Rattle.subsets.proofs.stepping.first.Goals as goal
 
-pub loop-i-init : goal.loop-i-init
-loop-i-init c = (omega arith, record { size = refl; front = refl; rest = refl })
-
 pub loop-i-preserved : goal.loop-i-preserved
-loop-i-preserved c = (omega arith, fill _ _ (omega arith) c.loop-i.invariant.1)
+loop-i-preserved c =
+    (length-set c.loop-i.bit-items c.loop-i.i c.loop-i.i ∙ c.loop-i.invariant.0, fill c.loop-i.i c.loop-i.bit-items (omega arith) c.loop-i.invariant.1)
 
 pub returns : goal.returns
 returns c =
-    filled c.loop-i.i c.args.k c.loop-i.bits (omega arith) c.requires c.loop-i.invariant.1
+    let all : c.loop-i.i ≡ c.args.k = omega arith in
+    filled c.args.k c.loop-i.bit-items c.requires c.loop-i.invariant.0 (subst (λ (i : ℕ). take i c.loop-i.bit-items ≡ numbers_from 0 i) all c.loop-i.invariant.1)

@@ -1,10 +1,8 @@
--- `stepping::first` meets its contract. The loop's invariant: the first i entries are 0, 1, .., i - 1, and the others are 0.
-use Prim.Native.Nat.{◌-◌, ◌≤◌}
-use Rattle.subsets.proofs.Filling.{Filled}
+-- `stepping::first` meets its contract. The loop's invariant: the first i entries are 0, 1, .., i - 1.
+use mathlib.Core.Path.{◌≡◌}
+use lib.ListN.{length, take}
+use Rattle.subsets.specs.Subsets.{numbers_from}
 use Rattle.subsets.proofs.stepping.first.Given as goal
 
 abbrev pub invariant-loop-i : goal.invariant-loop-i
-invariant-loop-i l = (l.i ≤ l.k) × Filled l.i l.bits
-
-abbrev pub decreases-loop-i : goal.decreases-loop-i
-decreases-loop-i l = l.k - l.i
+invariant-loop-i l = (length l.bit-items ≡ l.k) × (take l.i l.bit-items ≡ numbers_from 0 l.i)
