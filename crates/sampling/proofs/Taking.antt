@@ -1,9 +1,9 @@
 -- What a feed that is not refused does, as code does it: the piece is kept where it completes no block, and else its blocks are put in and what is past them is kept.
 use mathlib.Core.Path.{◌≡◌, refl, sym, ap, ap₂, ◌∙◌}
 use mathlib.Core.List.{List, ◌++◌, append_assoc, append-nil}
-use Prim.Native.Nat.{ℕ, ◌+◌, ◌-◌, ◌*◌, ◌/◌, ◌≤◌, ◌<◌}
+use Prim.Native.Nat.{ℕ, ◌+◌, ◌-◌, ◌*◌, ◌/◌, ◌%◌, ◌≤◌, ◌<◌}
 use native.Mathlib.Omega.{arith}
-use native.Mathlib.Nat.{add-mul, mul-le-mul_right}
+use native.Mathlib.Nat.{add-mul, div-add-mod', mul-le-mul_right}
 use lib.ListN.{length, take, drop, replicate, length-append, length-drop, take-append-drop}
 use lib.Seq.{take-add, drop-drop, length-take-le}
 use borrow.Rule.Slice.PartMut.{put_mid}
@@ -12,7 +12,7 @@ use Rattle.counting.specs.Recording.{block_bytes, stride, blocks_in}
 use Rattle.counting.proofs.Accepted.{Valid, valid_facts}
 use Rattle.counting.proofs.Buffers.{put_put}
 use Rattle.sampling.specs.Cut.{whole, rest}
-use Rattle.sampling.specs.Feeding.{completed, Completes, feed_refusal, left_on, fed_unfinished, fed_words}
+use Rattle.sampling.specs.Feeding.{together, completed, Completes, feed_refusal, left_on, fed_unfinished, fed_words}
 use Rattle.sampling.specs.Putting.{put_bytes}
 use Rattle.sampling.specs.Sampler.{pending, tail_of}
 use Rattle.sampling.specs.declared.sampler.Head.{Head}
@@ -233,9 +233,12 @@ keeps s u ws board piece long free none = record {
 -- the bytes that are used, as code works them out
 pub uses_so_many : (s : Head) (u ws : List ℕ) (board : ℕ) (piece : List ℕ) → length u ≡ 2048 → feed_refusal s (length ws) board (length piece) ≡ 0
     → 1 ≤ completed s board (length piece)
-    → (pending s board ≤ completed s board (length piece) * block_bytes s.block_size)
-    × Completes s board (length piece) (completed s board (length piece) * block_bytes s.block_size - pending s board)
+    → let left = together s board (length piece) % block_bytes s.block_size in
+    (left ≤ length piece) × Completes s board (length piece) (length piece - left)
 uses_so_many s u ws board piece long free some =
-    let one : 1 * block_bytes s.block_size ≤ completed s board (length piece) * block_bytes s.block_size = mul-le-mul_right (block_bytes s.block_size) some in
+    let new = length piece in
+    let one : 1 * block_bytes s.block_size ≤ completed s board new * block_bytes s.block_size = mul-le-mul_right (block_bytes s.block_size) some in
     let t = short s u ws board piece long free in
-    (omega arith, (some, omega arith))
+    let all = div-add-mod' (together s board new) (block_bytes s.block_size) in
+    let few : together s board new % block_bytes s.block_size ≤ new = omega arith in
+    (few, (some, omega arith))

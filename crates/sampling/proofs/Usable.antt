@@ -1,18 +1,20 @@
 -- What a refusal of 0 tells of a sampler, of a feed and of a sampler of the earlier rule; and how far blocks and bytes reach.
 use mathlib.Core.Path.{◌≡◌, refl, sym, ap, ◌∙◌}
 use mathlib.Core.Bool.{Bool, true, false, cond, ◌&&◌}
-use Prim.Native.Nat.{ℕ, zero, suc, ◌+◌, ◌*◌, ◌/◌, ◌≤◌, ◌<◌}
+use Prim.Native.Nat.{ℕ, zero, suc, ◌+◌, ◌*◌, ◌/◌, ◌%◌, ◌≤◌, ◌<◌}
 use native.Mathlib.Omega.{arith}
 use native.Mathlib.Nat.{min-le_left, min-le_right, mul-le-mul, mul-le-mul_right, div-mul-le_self, div-le_of_le-mul, mul_comm}
 use lib.Dec.{leb, ltb, eqb}
 use borrow.Author.Tests.{leb-true, ltb-true, eqb-true}
+use Rattle.std.specs.Prelude.{Ok}
 use Rattle.counting.specs.Block.{valid_size}
 use Rattle.counting.specs.Recording.{block_bytes, stride, capacity, capacity_bytes}
 use Rattle.counting.proofs.Accepted.{passed, Valid}
 use Rattle.sampling.specs.Earlier.{earlier_refusal}
-use Rattle.sampling.specs.Feeding.{completed, feed_refusal, taken_of, next_head, fed_head}
+use Rattle.sampling.specs.Feeding.{together, completed, feed_refusal, Taken, as_taken, taken_of, next_head, fed_head}
 use Rattle.sampling.specs.Sampler.{pending, each_short, sampler_refusal}
 use Rattle.sampling.specs.declared.carrying.Earlier.{Earlier}
+use Rattle.sampling.specs.declared.feeding.Taken.{Taken as TakenNumbers}
 use Rattle.sampling.specs.declared.sampler.Head.{Head}
 
 -- both hold
@@ -86,6 +88,20 @@ taken_refusal s words board new = by_test (eqb (feed_refusal s words board new) 
     by_test : (t : Bool) → eqb (feed_refusal s words board new) 0 ≡ t → (taken_of s words board new).refusal ≡ feed_refusal s words board new
     by_test true e = rw e (sym (eqb-true _ _ e))
     by_test false e = rw e refl
+
+-- .. of a feed that is not refused
+pub record Takes (s : Head) (words board new : ℕ) (t : TakenNumbers) : Type 0 where
+  pub free : feed_refusal s words board new ≡ 0
+  pub blocks : t.blocks ≡ s.blocks + completed s board new
+  pub left : t.left ≡ together s board new % block_bytes s.block_size
+
+pub takes : (s : Head) (words board new : ℕ) (t : TakenNumbers) → as_taken (Ok t) ≡ taken_of s words board new → Takes s words board new t
+unfolding taken_of
+takes s words board new t e =
+    let free : feed_refusal s words board new ≡ 0 = sym (taken_refusal s words board new) ∙ sym (ap (λ (x : Taken). x.refusal) e) in
+    let now : as_taken (Ok t) ≡ record { refusal = 0; blocks = s.blocks + completed s board new; left = together s board new % block_bytes s.block_size } =
+    e ∙ simp free refl in
+    record { free = free; blocks = ap (λ (x : Taken). x.blocks) now; left = ap (λ (x : Taken). x.left) now }
 
 pub taken_named : (s : Head) (words board new : ℕ) → (taken_of s words board new).refusal ≡ 0 → board < 4
 taken_named s words board new z = (accepted s words board new (sym (taken_refusal s words board new) ∙ z)).named

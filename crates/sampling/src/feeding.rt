@@ -1,8 +1,7 @@
 // Feeding: a piece goes to its board, and the blocks that it completes into the words.
 ghost use Rattle.std.specs.Prelude.{◌≡◌, ◌+◌, ◌-◌, ◌*◌, ◌≤◌, ◌<◌, Ok, length, replicate};
 ghost use Rattle.counting.specs.Buffer.{put};
-ghost use Rattle.counting.specs.Refusal.{refusal_of};
-ghost use Rattle.sampling.specs.Feeding.{Completes, feed_refusal, as_taken, taken_of, next_head, as_fed, fed_unfinished, fed_of, fed_words};
+ghost use Rattle.sampling.specs.Feeding.{as_taken, taken_of, next_head, as_fed, fed_unfinished, fed_of, fed_words};
 ghost use Rattle.sampling.specs.Sampler.{pending};
 
 use crate::putting::{Place, put_bytes};
@@ -46,27 +45,32 @@ pub fn feed_lent(
     ensures unfinished_after { unfinished.new ≡ fed_unfinished head (length words.old) unfinished.old board piece.now }
     ensures words_after { words.new ≡ fed_words head unfinished.old words.old board piece.now }
 {
-    feed_refusal(head, words.len(), board, piece.len())?;
-    take_piece(head, unfinished, words, board, piece);
-    Ok(taken_of(head, words.len(), board, piece.len()))
+    let taken = taken_of(head, words.len(), board, piece.len())?;
+    take_piece(head, taken, unfinished, words, board, piece);
+    Ok(taken)
 }
 
-// Refusals 4, 21, 5 where no piece of `new` bytes can be taken.
-fn feed_refusal(head: Head, words: usize, board: usize, new: usize) -> Result<(), Refusal>
+// What a piece of `new` bytes changes. Refusals 4, 21, 5.
+fn taken_of(head: Head, words: usize, board: usize, new: usize) -> Result<Taken, Refusal>
     requires words_bound { 8 * words < 9223372036854775808 }
     requires bound { new < 9223372036854775808 }
-    ensures { refusal_of result ≡ feed_refusal head words board new }
+    ensures { as_taken result ≡ taken_of head words board new }
 {
     sampler_refusal(head, words)?;
     let unknown = board > 3;
     if unknown {
         return Err(Refusal::Board);
     }
-    let done = (unfinished_on(head, board) + new) / (head.block_size / 8);
-    if head.blocks + done > capacity_blocks(head.block_size, words) {
+    let size = head.block_size / 8;
+    let all = unfinished_on(head, board) + new;
+    let blocks = head.blocks + all / size;
+    if blocks > capacity_blocks(head.block_size, words) {
         return Err(Refusal::Full);
     }
-    Ok(())
+    Ok(Taken {
+        blocks,
+        left: all % size,
+    })
 }
 
 // How many unfinished bytes a board has; each place is a constant, so that no copy of the four is made to be read at another.
@@ -87,20 +91,6 @@ fn unfinished_on(head: Head, board: usize) -> usize
     lengths[3]
 }
 
-// What a piece of `new` bytes that is taken changes.
-fn taken_of(head: Head, words: usize, board: usize, new: usize) -> Taken
-    requires value { feed_refusal head words board new ≡ 0 }
-    requires bound { new < 9223372036854775808 }
-    ensures { as_taken (Ok result) ≡ taken_of head words board new }
-{
-    let size = head.block_size / 8;
-    let all = unfinished_on(head, board) + new;
-    Taken {
-        blocks: head.blocks + all / size,
-        left: all % size,
-    }
-}
-
 // The numbers after a feed to the board.
 fn next_head(head: Head, board: usize, taken: Taken) -> Head
     requires { board < 4 }
@@ -117,44 +107,30 @@ fn next_head(head: Head, board: usize, taken: Taken) -> Head
     }
 }
 
-// Puts the blocks that the piece completes into the words, and keeps what is past them.
-fn take_piece(head: Head, unfinished: &mut [u8], words: &mut [u64], board: usize, piece: &[u8])
-    requires unfinished_len { length unfinished.old ≡ 2048 }
-    requires piece_value { feed_refusal head (length words.old) board (length piece.now) ≡ 0 }
-    ensures unfinished_after { unfinished.new ≡ fed_unfinished head (length words.old) unfinished.old board piece.now }
-    ensures words_after { words.new ≡ fed_words head unfinished.old words.old board piece.now }
-{
-    let size = head.block_size / 8;
-    let t = unfinished_on(head, board);
-    let done = (t + piece.len()) / size;
-    if done == 0 {
-        write_bytes(unfinished, 512 * board + t, piece);
-        return;
-    }
-    complete(head, unfinished, words, board, done * size - t, piece);
-}
-
-// The first `used` bytes of the piece complete blocks, with the board's unfinished bytes before them; the others are unfinished then.
-fn complete(
+// Puts the blocks that the piece completes, with the board's unfinished bytes before it, into the words, and keeps what is past them.
+fn take_piece(
     head: Head,
+    taken: Taken,
     unfinished: &mut [u8],
     words: &mut [u64],
     board: usize,
-    used: usize,
     piece: &[u8],
 )
     requires unfinished_len { length unfinished.old ≡ 2048 }
-    requires piece_value { feed_refusal head (length words.old) board (length piece.now) ≡ 0 }
-    requires completes { Completes head board (length piece.now) used }
+    requires taken_value { as_taken (Ok taken) ≡ taken_of head (length words.old) board (length piece.now) }
     ensures unfinished_after { unfinished.new ≡ fed_unfinished head (length words.old) unfinished.old board piece.now }
     ensures words_after { words.new ≡ fed_words head unfinished.old words.old board piece.now }
 {
-    let block_size = head.block_size;
-    let size = block_size / 8;
-    let stride = words.len() / block_size;
-    let block = head.blocks;
     let t = unfinished_on(head, board);
     let at = 512 * board;
+    if taken.blocks == head.blocks {
+        write_bytes(unfinished, at + t, piece);
+        return;
+    }
+    let size = head.block_size / 8;
+    let stride = words.len() / head.block_size;
+    let block = head.blocks;
+    let (used, left) = piece.split_at(piece.len() - taken.left);
     put_bytes(
         words,
         size,
@@ -168,10 +144,10 @@ fn complete(
         size,
         stride,
         Place { block, byte: t },
-        &piece[..used],
+        used,
         head.low_first,
     );
-    keep(unfinished, at, &piece[used..], t);
+    keep(unfinished, at, left, t);
 }
 
 // Writes the bytes at a place, and 0 behind them as far as `t` bytes from that place.
