@@ -74,10 +74,8 @@ fn leading_bins(
 {
     let k = bits.len();
     bins[0] = span(stretch);
-    let mut m: usize = 1;
-    while m < k {
+    for m in 1..k {
         split_bins(&bits[..m], k, 0, words, stretch, store, run, parts, bins);
-        m += 1;
     }
 }
 
@@ -199,9 +197,7 @@ fn join_bins(bins: &mut [u32], half: usize)
     ensures by_index_2 { (v : ℕ) → v < half → get_or bins.new v 0 ≡ get_or bins.old v 0 + get_or bins.old (half + v) 0 }
     ensures bins_unchanged { drop half bins.new ≡ drop half bins.old }
 {
-    let mut v: usize = 0;
-    while v < half {
+    for v in 0..half {
         bins[v] = bins[v] + bins[half + v];
-        v += 1;
     }
 }

@@ -27,15 +27,14 @@ fn gather_ones(
     ensures spared { Spared (2 ^ (length bits.now - 1)) end bins.old bins.new }
     ensures by_index_2 { (w : ℕ) → 2 ^ length bits.now ≤ w → get_or parts.new w 0 ≡ get_or parts.old w 0 }
 {
-    let mut u: usize = 1 << (bits.len() - 1) as u32;
+    let half: usize = 1 << (bits.len() - 1) as u32;
     parts[0] = 0;
-    while u < end {
+    for u in half..end {
         let i = u32::trailing_zeros(u as u32) as usize;
         let d = u32::count_ones(u as u32) as usize;
         let part = run[(i + 1) * 21 + d] + parts[u - (1 << i)];
         parts[u] = part;
         bins[u] = store[(run[d] - part) as usize];
-        u += 1;
     }
 }
 
@@ -62,9 +61,9 @@ fn gather_fours(
     ensures spared { Spared (2 ^ (length bits.now - 1)) end bins.old bins.new }
     ensures by_index_2 { (w : ℕ) → 2 ^ length bits.now ≤ w → get_or parts.new w 0 ≡ get_or parts.old w 0 }
 {
-    let mut u: usize = 1 << (bits.len() - 1) as u32;
+    let half: usize = 1 << (bits.len() - 1) as u32;
     parts[0] = 0;
-    while u < end {
+    for u in (half..end).step_by(4) {
         let i = u32::trailing_zeros(u as u32) as usize;
         let d = u32::count_ones(u as u32) as usize;
         let part = run[(i + 1) * 21 + d] + parts[u - (1 << i)];
@@ -77,7 +76,6 @@ fn gather_fours(
         if u + 3 < end {
             bins[u + 3] = store[(run[d + 2] - (run[23 + d] + third)) as usize];
         }
-        u += 4;
     }
 }
 

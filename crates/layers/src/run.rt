@@ -24,11 +24,9 @@ fn fill_row(run: &mut [u32], at: usize, m: usize, most: usize)
     ensures by_index_3 { (w : ℕ) → (w ≤ at) ⊎ (at + most < w) → get_or run.new w 0 ≡ get_or run.old w 0 }
 {
     let mut c: usize = 1;
-    let mut r: usize = 0;
-    while r < most {
+    for r in 0..most {
         c = c * (m - r) / (r + 1);
-        r += 1;
-        run[at + r] = c as u32;
+        run[at + (r + 1)] = c as u32;
     }
 }
 
@@ -42,24 +40,9 @@ fn fill_ways(bits: &[u32], block_size: usize, run: &mut [u32])
 {
     let k = bits.len();
     let most = widest(k);
-    let mut i: usize = 0;
-    while i < k {
+    for i in 0..k {
         let above = block_size - 1 - bits[i] as usize;
-        let here = if k - i < most { k - i } else { most };
-        i += 1;
-        fill_row(run, i * 21, above, here);
-    }
-}
-
-// The entries of `to` become those of `from`.
-fn copy(from: &[u32], to: &mut [u32])
-    requires { length from.now ≡ length to.old }
-    ensures { to.new ≡ from.now }
-{
-    let mut i: usize = 0;
-    while i < to.len() {
-        to[i] = from[i];
-        i += 1;
+        fill_row(run, (i + 1) * 21, above, (k - i).min(most));
     }
 }
 
@@ -76,7 +59,7 @@ fn count_run(bits: &[u32], words: &[u64], stretch: Stretch, store: &[u32], run: 
     let end = 441 + stretch.block_size;
     let at = bits.len() - 1;
     if at == 0 {
-        copy(&store[..stretch.block_size], &mut run[441..end]);
+        run[441..end].copy_from_slice(&store[..stretch.block_size]);
         return;
     }
     let last = bits[at] as usize;

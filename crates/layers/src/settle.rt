@@ -9,10 +9,8 @@ pub fn reduce(bins: &mut [u32], at: usize, step: usize)
     requires by_index { (i : ℕ) → i < step → get_or bins.old (at + step + i) 0 ≤ get_or bins.old (at + i) 0 }
     ensures { Reduced at step step bins.old bins.new }
 {
-    let mut i: usize = 0;
-    while i < step {
+    for i in 0..step {
         bins[at + i] = bins[at + i] - bins[at + step + i];
-        i += 1;
     }
 }
 
@@ -22,10 +20,8 @@ fn reduce_each(bins: &mut [u32], step: usize)
     requires paired { Paired step bins.old }
     ensures { Stepped step (length bins.old / (2 * step)) bins.old bins.new }
 {
-    let mut at: usize = 0;
-    while at < bins.len() {
+    for at in (0..bins.len()).step_by(2 * step) {
         reduce(bins, at, step);
-        at += 2 * step;
     }
 }
 
@@ -34,15 +30,13 @@ fn reduce_fours(bins: &mut [u32])
     requires { FallsInFours bins.old }
     ensures { Fours (length bins.old) bins.old bins.new }
 {
-    let mut at: usize = 0;
-    while at < bins.len() {
+    for at in (0..bins.len()).step_by(4) {
         let both = bins[at + 3];
         let first = bins[at + 1];
         let second = bins[at + 2] - both;
         bins[at] = bins[at] - first - second;
         bins[at + 1] = first - both;
         bins[at + 2] = second;
-        at += 4;
     }
 }
 
@@ -65,9 +59,7 @@ pub fn settle(upper: &mut [u32], j: usize)
     requires settles { Settles j upper.old }
     ensures { (bit : ℕ → ℕ → ℕ) (n : ℕ) (bits : List ℕ) → Covered bit n j bits upper.old → (v : ℕ) → v < 2 ^ j → get_or upper.new v 0 ≡ count_in bit n bits (2 ^ j + v) }
 {
-    let mut i: usize = first_places(upper, j);
-    while i < j {
+    for i in first_places(upper, j)..j {
         reduce_each(upper, 1 << i as u32);
-        i += 1;
     }
 }

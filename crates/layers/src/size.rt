@@ -21,12 +21,10 @@ pub fn store_size(block_size: usize, k: usize) -> usize
 {
     let most = widest(k);
     let mut size: usize = 0;
-    let mut d: usize = 0;
-    while d < most {
-        d += 1;
+    for d in 1..most + 1 {
         size += choose_up_to(block_size, d);
     }
-    if size > 4294967296 { 4294967297 } else { size }
+    size.min(4294967297)
 }
 
 // Whether a store of a entries is long enough, and its size at most 2^32.

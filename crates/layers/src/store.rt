@@ -53,9 +53,7 @@ pub fn fill_store(k: usize, words: &[u64], stretch: Stretch, run: &mut [u32], st
 {
     let most = widest(k);
     let mut at: usize = 0;
-    let mut d: usize = 0;
-    while d < most {
-        d += 1;
+    for d in 1..most + 1 {
         at = fill_size(d, at, words, stretch, store);
         run[d] = (at - 1) as u32;
     }

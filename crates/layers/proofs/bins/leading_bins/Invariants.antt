@@ -19,6 +19,3 @@ pub record Split (bit : ℕ → ℕ → ℕ) (n : ℕ) (bits parts₀ bins₀ : 
 
 abbrev pub invariant-loop-m : goal.invariant-loop-m
 invariant-loop-m l = Split (stretch_bit l.stretch l.words) (span l.stretch) l.bits l.initial.parts l.initial.bins l.m l.parts l.bins
-
-abbrev pub decreases-loop-m : goal.decreases-loop-m
-decreases-loop-m l = l.k - l.m

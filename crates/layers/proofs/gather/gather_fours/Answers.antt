@@ -126,17 +126,28 @@ in_bins : (d : In-loop-u) (j : ℕ) → j < 4 → d.loop-u.u + j < length d.loop
 in_bins d j h =
     omega (arith, below d, d.loop-u.invariant.3.size, d.requires.bits_in_bounds.1)
 
-pub overflow_sub-u : goal.overflow_sub-u
-overflow_sub-u c = omega (arith, c.requires.in_bounds)
+-- a turn keeps a part
+more_parts : (d : In-loop-u)
+    → let a = d.args in
+    let u = d.loop-u.u in
+    Parts a.block_size a.bits.now (set a.parts.now 0 0) (2 ^ (length a.bits.now - 1)) 4 (u + 4) (set d.loop-u.parts u (first_part d))
+more_parts d =
+    let a = d.args in
+    let l = d.loop-u in
+    parts_more a.block_size a.bits.now (set a.parts.now 0 0) (2 ^ (length a.bits.now - 1)) 4 l.u l.parts l.invariant.2 (l.u + 4) _
+    (pow_pos (length a.bits.now - 1)) l.invariant.0 (omega (arith, below d)) (omega (arith, in_parts d))
+    (λ w low high z. omega (arith, l.invariant.1)) (first d).part
 
-pub overflow_cast-u : goal.overflow_cast-u
-overflow_cast-u c = omega (arith, c.requires.in_bounds)
+-- so many entries stood before it
+read : (d : In-loop-u)
+    → let a = d.args in Entries a.block_size a.k a.bits.now a.store.now a.bins.now (2 ^ (length a.bits.now - 1)) d.loop-u.u d.loop-u.bins
+read d =
+    let a = d.args in
+    let now : min d.loop-u.u a.end ≡ d.loop-u.u = omega (arith, d.loop-u-test.true) in
+    subst (λ (x : ℕ). Entries a.block_size a.k a.bits.now a.store.now a.bins.now (2 ^ (length a.bits.now - 1)) x d.loop-u.bins) now d.loop-u.invariant.3
 
-pub overflow_cast-u-2 : goal.overflow_cast-u-2
-overflow_cast-u-2 c = omega (arith, c.requires.in_bounds)
-
-pub overflow_shl-u : goal.overflow_shl-u
-overflow_shl-u c = omega (arith, c.requires.in_bounds)
+room : (d : In-loop-u) → d.loop-u.u + 4 ≤ length d.args.bins.now
+room d = omega (arith, below d, d.requires.bits_in_bounds.1)
 
 pub bounds-parts-0 : goal.bounds-parts-0
 bounds-parts-0 c = some_parts c
@@ -348,36 +359,24 @@ offset_bounds-bins-u-then-u-end c = omega (arith, below (goal.at.offset_bounds-b
 pub bounds-bins-u-then-u-end : goal.bounds-bins-u-then-u-end
 bounds-bins-u-then-u-end c = simp length-set (in_bins (goal.at.bounds-bins-u-then-u-end c).In-loop-u 3 (omega arith))
 
-pub overflow_add-u-in-loop-u : goal.overflow_add-u-in-loop-u
-overflow_add-u-in-loop-u c = omega (arith, below (goal.at.overflow_add-u-in-loop-u c).In-loop-u, at_most (goal.at.overflow_add-u-in-loop-u c).Start)
-
-pub loop-u-smaller : goal.loop-u-smaller
-loop-u-smaller c = omega (arith, c.loop-u-test.true)
-
 pub loop-u-preserved : goal.loop-u-preserved
 loop-u-preserved c =
     let a = c.args in
     let from : ℕ = 2 ^ (length a.bits.now - 1) in
     let u : ℕ = c.loop-u.u in
-    let now : min u a.end ≡ u = omega (arith, c.loop-u-test.true) in
-    let room : u + 4 ≤ length a.bins.now = omega (arith, below (goal.at.loop-u-preserved c).In-loop-u, c.requires.bits_in_bounds.1) in
-    let read = subst (λ (x : ℕ). Entries a.block_size a.k a.bits.now a.store.now a.bins.now from x c.loop-u.bins) now c.loop-u.invariant.3 in (
-      omega (arith, c.loop-u.invariant.0),
-      omega (arith, c.loop-u.invariant.1),
-      parts_more a.block_size a.bits.now (set a.parts.now 0 0) from 4 u c.loop-u.parts c.loop-u.invariant.2 (u + 4) _
-          (pow_pos (length a.bits.now - 1)) c.loop-u.invariant.0 (omega (arith, below (goal.at.loop-u-preserved c).In-loop-u)) (omega (arith, in_parts (goal.at.loop-u-preserved c).In-loop-u))
-          (λ w low high z. omega (arith, c.loop-u.invariant.1)) (first (goal.at.loop-u-preserved c).In-loop-u).part,
-      elim c.if-u-end.branch [
-        | then-u-end w ↦ rw w.bins-is
-            (entries_more a.block_size a.k a.bits.now a.store.now a.bins.now from (u + 3) _
-            (entries_three a.block_size a.k a.bits.now a.store.now a.bins.now from u c.loop-u.bins read (u + 3) _ _ _ refl
-            c.loop-u.invariant.0 (omega (arith, room)) (first (goal.at.loop-u-preserved c).In-loop-u).entry (second (goal.at.loop-u-preserved c).In-loop-u).entry (third (goal.at.loop-u-preserved c).In-loop-u).entry)
-            (min (u + 4) a.end) _ (omega (arith, w.if-u-end.true)) (omega (arith, c.loop-u.invariant.0)) (omega (arith, room)) (fourth (goal.at.loop-u-preserved c).In-loop-u w.if-u-end.true).entry)
-        | else-u-end w ↦ rw w.bins-is
-            (entries_three a.block_size a.k a.bits.now a.store.now a.bins.now from u c.loop-u.bins read (min (u + 4) a.end) _ _ _
-            (omega (arith, w.if-u-end.false, within (goal.at.loop-u-preserved c).In-loop-u)) c.loop-u.invariant.0 (omega (arith, room)) (first (goal.at.loop-u-preserved c).In-loop-u).entry (second (goal.at.loop-u-preserved c).In-loop-u).entry (third (goal.at.loop-u-preserved c).In-loop-u).entry)
-      ],
-    )
+    let d = (goal.at.loop-u-preserved c).In-loop-u in
+    let entries : Entries a.block_size a.k a.bits.now a.store.now a.bins.now from (min (u + 4) a.end) c.if-u-end.bins =
+    elim c.if-u-end.branch [
+      | then-u-end w ↦ rw w.bins-is
+          (entries_more a.block_size a.k a.bits.now a.store.now a.bins.now from (u + 3) _
+          (entries_three a.block_size a.k a.bits.now a.store.now a.bins.now from u c.loop-u.bins (read d) (u + 3) _ _ _ refl
+          c.loop-u.invariant.0 (omega (arith, room d)) (first d).entry (second d).entry (third d).entry)
+          (min (u + 4) a.end) _ (omega (arith, w.if-u-end.true)) (omega (arith, c.loop-u.invariant.0)) (omega (arith, room d)) (fourth d w.if-u-end.true).entry)
+      | else-u-end w ↦ rw w.bins-is
+          (entries_three a.block_size a.k a.bits.now a.store.now a.bins.now from u c.loop-u.bins (read d) (min (u + 4) a.end) _ _ _
+          (omega (arith, w.if-u-end.false, within d)) c.loop-u.invariant.0 (omega (arith, room d)) (first d).entry (second d).entry (third d).entry)
+    ] in
+    (omega (arith, c.loop-u.invariant.0), omega (arith, c.loop-u.invariant.1), more_parts d, entries)
 
 pub shape_of-parts : goal.shape_of-parts
 shape_of-parts c =
@@ -393,4 +392,27 @@ returns c =
       by_index = λ bit n holds w low high. r.gathered bit n holds w low (omega (arith, c.loop-u-test.false));
       spared = λ w h. r.spared w (⊎_elim (λ q. inl q) (λ q. inr (omega arith)) h);
       by_index_2 = λ w h. c.loop-u.invariant.2.rest w h ∙ get_or-set_other a.parts.now 0 w 0 0 (λ q. omega (arith, pow_pos (length a.bits.now)));
+    }
+
+pub returns-after-u-end : goal.returns-after-u-end
+returns-after-u-end c =
+    let a = c.args in
+    let from : ℕ = 2 ^ (length a.bits.now - 1) in
+    let u : ℕ = c.loop-u.u in
+    let d = (goal.at.returns-after-u-end c).In-loop-u in
+    let entries : Entries a.block_size a.k a.bits.now a.store.now a.bins.now from (min (u + 4) a.end) c.if-u-end.bins =
+    elim c.if-u-end.branch [
+      | then-u-end w ↦ rw w.bins-is
+          (entries_more a.block_size a.k a.bits.now a.store.now a.bins.now from (u + 3) _
+          (entries_three a.block_size a.k a.bits.now a.store.now a.bins.now from u c.loop-u.bins (read d) (u + 3) _ _ _ refl
+          c.loop-u.invariant.0 (omega (arith, room d)) (first d).entry (second d).entry (third d).entry)
+          (min (u + 4) a.end) _ (omega (arith, w.if-u-end.true)) (omega (arith, c.loop-u.invariant.0)) (omega (arith, room d)) (fourth d w.if-u-end.true).entry)
+      | else-u-end w ↦ rw w.bins-is
+          (entries_three a.block_size a.k a.bits.now a.store.now a.bins.now from u c.loop-u.bins (read d) (min (u + 4) a.end) _ _ _
+          (omega (arith, w.if-u-end.false, within d)) c.loop-u.invariant.0 (omega (arith, room d)) (first d).entry (second d).entry (third d).entry)
+    ] in
+    record {
+      by_index = λ bit n holds w low high. entries.gathered bit n holds w low (omega arith);
+      spared = λ w h. entries.spared w (⊎_elim (λ q. inl q) (λ q. inr (omega arith)) h);
+      by_index_2 = λ w h. (more_parts d).rest w h ∙ get_or-set_other a.parts.now 0 w 0 0 (λ q. omega (arith, pow_pos (length a.bits.now)));
     }

@@ -70,18 +70,6 @@ in_bins : (d : In-loop-u) → d.loop-u.u < length d.loop-u.bins
 in_bins d =
     omega (arith, below d, d.loop-u.invariant.3.size, d.requires.bits_in_bounds.1)
 
-pub overflow_sub-u : goal.overflow_sub-u
-overflow_sub-u c = omega (arith, c.requires.in_bounds)
-
-pub overflow_cast-u : goal.overflow_cast-u
-overflow_cast-u c = omega (arith, c.requires.in_bounds)
-
-pub overflow_cast-u-2 : goal.overflow_cast-u-2
-overflow_cast-u-2 c = omega (arith, c.requires.in_bounds)
-
-pub overflow_shl-u : goal.overflow_shl-u
-overflow_shl-u c = omega (arith, c.requires.in_bounds)
-
 pub bounds-parts-0 : goal.bounds-parts-0
 bounds-parts-0 c = some_parts c
 

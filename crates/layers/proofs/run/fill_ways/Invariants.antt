@@ -1,12 +1,8 @@
 -- `run::fill_ways` meets its contract. The loop's invariant: the ways above the first i bits stand.
-use Prim.Native.Nat.{◌-◌, ◌≤◌}
 use mathlib.Core.Path.{◌≡◌}
 use lib.ListN.{length}
 use Rattle.layers.proofs.Running.{Ways}
 use Rattle.layers.proofs.run.fill_ways.Given as goal
 
 abbrev pub invariant-loop-i : goal.invariant-loop-i
-invariant-loop-i l = (l.i ≤ length l.bits) × (length l.run ≡ length l.initial.run) × Ways l.block_size (length l.bits) l.bits l.i l.run
-
-abbrev pub decreases-loop-i : goal.decreases-loop-i
-decreases-loop-i l = length l.bits - l.i
+invariant-loop-i l = (length l.run ≡ length l.initial.run) × Ways l.block_size (length l.bits) l.bits l.i l.run

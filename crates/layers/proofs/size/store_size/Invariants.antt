@@ -6,7 +6,4 @@ use Rattle.layers.specs.Store.{size_to}
 use Rattle.layers.proofs.size.store_size.Given as goal
 
 abbrev pub invariant-loop-d : goal.invariant-loop-d
-invariant-loop-d l = (l.d ≤ l.most) × (l.size ≤ l.d * 4294967297) × (up_to l.size ≡ up_to (size_to l.block_size l.d))
-
-abbrev pub decreases-loop-d : goal.decreases-loop-d
-decreases-loop-d l = l.most - l.d
+invariant-loop-d l = (l.size ≤ l.d * 4294967297) × (up_to l.size ≡ up_to (size_to l.block_size (l.d - 1)))

@@ -18,21 +18,20 @@ few : (l : At-loop-d) → (l.widest-most.result ≤ 19) × (l.widest-most.result
 few l = (omega (arith, l.widest-most.ensures, l.requires.le_k), omega (arith, l.widest-most.ensures, l.requires.le_k))
 
 -- the width's end is within the store
-within : (c : In-loop-d) → let a = c.args in size_to a.stretch.block_size (c.loop-d.d + 1) ≤ store_size a.stretch.block_size a.k
+within : (c : In-loop-d) → let a = c.args in size_to a.stretch.block_size c.loop-d.d ≤ store_size a.stretch.block_size a.k
 within c =
     let a = c.args in
-    size_grows a.stretch.block_size (c.loop-d.d + 1) (widest a.k) (omega (arith, c.widest-most.ensures, c.loop-d-test.true))
+    size_grows a.stretch.block_size c.loop-d.d (widest a.k) (omega (arith, c.widest-most.ensures, c.loop-d-test.true))
 
 -- and is not its beginning
-some : (c : In-loop-d) → 1 ≤ size_to c.args.stretch.block_size (c.loop-d.d + 1)
+some : (c : In-loop-d) → 1 ≤ size_to c.args.stretch.block_size c.loop-d.d
 some c =
-    size_some c.args.stretch.block_size (c.loop-d.d + 1) (omega arith) (omega (arith, (few (goal.at.overflow_add-d c).At-loop-d).1, c.loop-d-test.true))
+    size_some c.args.stretch.block_size c.loop-d.d (omega arith) (omega (arith, c.widest-most.ensures, c.requires.le_k, c.loop-d-test.true))
 
 pub loop-d-init : goal.loop-d-init
 loop-d-init c =
     let a = c.args in
     let B = a.stretch.block_size in (
-      omega arith,
       sym (size_none B),
       refl,
       holds_none (stretch_bit a.stretch a.words.now) (span a.stretch) B a.store.now,
@@ -41,19 +40,15 @@ loop-d-init c =
       λ d pos h. absurd (omega arith),
     )
 
-pub overflow_add-d : goal.overflow_add-d
-overflow_add-d c = omega (arith, (few (goal.at.overflow_add-d c).At-loop-d).0)
-
 pub fill_size-at-requires : goal.fill_size-at-requires
 fill_size-at-requires c =
-    let e : c.loop-d.d + 1 - 1 ≡ c.loop-d.d = omega arith in
-    rw e (record {
+    record {
       le_d = (omega arith, omega (arith, (few (goal.at.fill_size-at-requires c).At-loop-d).0, c.loop-d-test.true), omega (arith, (few (goal.at.fill_size-at-requires c).At-loop-d).1, c.loop-d-test.true), c.requires.le_k.3);
       stretch_in = c.requires.stretch_in;
-      start_value = c.loop-d.invariant.1;
-      d_in_bounds = omega (arith, within (goal.at.fill_size-at-requires c).In-loop-d, c.loop-d.invariant.2, c.requires.roomy.room);
-      holds_to = c.loop-d.invariant.3;
-    })
+      start_value = c.loop-d.invariant.0;
+      d_in_bounds = omega (arith, within (goal.at.fill_size-at-requires c).In-loop-d, c.loop-d.invariant.1, c.requires.roomy.room);
+      holds_to = c.loop-d.invariant.2;
+    }
 
 pub overflow_sub-run : goal.overflow_sub-run
 overflow_sub-run c = omega (arith, c.fill_size-at.ensures.value, some (goal.at.overflow_sub-run c).In-loop-d)
@@ -67,44 +62,44 @@ offset_bounds-run-d c = omega (arith, (few (goal.at.offset_bounds-run-d c).At-lo
 
 pub bounds-run-d : goal.bounds-run-d
 bounds-run-d c =
-    omega (arith, (few (goal.at.bounds-run-d c).At-loop-d).0, c.loop-d-test.true, c.loop-d.invariant.5, c.requires.block_size_in_bounds)
-
-pub loop-d-smaller : goal.loop-d-smaller
-loop-d-smaller c = omega (arith, c.loop-d-test.true)
+    omega (arith, (few (goal.at.bounds-run-d c).At-loop-d).0, c.loop-d-test.true, c.loop-d.invariant.4, c.requires.block_size_in_bounds)
 
 pub loop-d-preserved : goal.loop-d-preserved
 loop-d-preserved c =
     let a = c.args in
     let B = a.stretch.block_size in
-    let g = c.fill_size-at in (
-      omega (arith, c.loop-d-test.true),
+    let d = c.loop-d.d in
+    let g = c.fill_size-at in
+    let back : d + 1 - 1 ≡ d = omega arith in
+    let before : d - 1 + 1 ≡ d = omega arith in
+    rw back (
       g.ensures.value,
-      g.auto.store ∙ c.loop-d.invariant.2,
+      g.auto.store ∙ c.loop-d.invariant.1,
       g.ensures.holds_to_2,
-      past_larger (size_to B (c.loop-d.d + 1)) (store_size B a.k) g.new.store c.loop-d.store (within (goal.at.loop-d-preserved c).In-loop-d) g.ensures.store_unchanged ∙ c.loop-d.invariant.4,
-      length-set c.loop-d.run (c.loop-d.d + 1) (g.result - 1) ∙ c.loop-d.invariant.5,
-      tops_next B c.loop-d.d (g.result - 1) c.loop-d.run (bounds-run-d c) (omega (arith, g.ensures.value, some (goal.at.loop-d-preserved c).In-loop-d)) c.loop-d.invariant.6,
+      past_larger (size_to B d) (store_size B a.k) g.new.store c.loop-d.store (within (goal.at.loop-d-preserved c).In-loop-d) g.ensures.store_unchanged ∙ c.loop-d.invariant.3,
+      length-set c.loop-d.run d (g.result - 1) ∙ c.loop-d.invariant.4,
+      rw before at (tops_next B (d - 1) (g.result - 1) c.loop-d.run (omega (arith, bounds-run-d c)) (rw before (omega (arith, g.ensures.value, some (goal.at.loop-d-preserved c).In-loop-d))) c.loop-d.invariant.5),
     )
 
 pub shape_of-run : goal.shape_of-run
-shape_of-run c = c.loop-d.invariant.5
+shape_of-run c = c.loop-d.invariant.4
 
 pub shape_of-store : goal.shape_of-store
-shape_of-store c = c.loop-d.invariant.2
+shape_of-store c = c.loop-d.invariant.1
 
 pub returns : goal.returns
 returns c =
     let a = c.args in
     let B = a.stretch.block_size in
     let store = c.loop-d.store in
-    let all : c.loop-d.d ≡ widest a.k = omega (arith, c.widest-most.ensures, c.loop-d.invariant.0, c.loop-d-test.false) in record {
+    let all : c.loop-d.d - 1 ≡ widest a.k = omega (arith, c.widest-most.ensures, c.loop-d-test.false) in record {
       holds = record {
-        roomy = record { few = c.requires.roomy.few; room = omega (arith, c.requires.roomy.room, c.loop-d.invariant.2) };
-        entries = subst (λ (d : ℕ). HoldsTo (stretch_bit a.stretch a.words.now) (span a.stretch) B d store) all c.loop-d.invariant.3;
+        roomy = record { few = c.requires.roomy.few; room = omega (arith, c.requires.roomy.room, c.loop-d.invariant.1) };
+        entries = subst (λ (d : ℕ). HoldsTo (stretch_bit a.stretch a.words.now) (span a.stretch) B d store) all c.loop-d.invariant.2;
       };
-      store_unchanged = c.loop-d.invariant.4;
+      store_unchanged = c.loop-d.invariant.3;
       tops = record {
-        room = omega (arith, c.requires.block_size_in_bounds, c.loop-d.invariant.5);
-        top = λ d pos h. c.loop-d.invariant.6 d pos (omega (arith, all));
+        room = omega (arith, c.requires.block_size_in_bounds, c.loop-d.invariant.4);
+        top = λ d pos h. c.loop-d.invariant.5 d pos (omega (arith, all));
       };
     }
