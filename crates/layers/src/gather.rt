@@ -63,7 +63,8 @@ fn gather_fours(
 {
     let half: usize = 1 << (bits.len() - 1) as u32;
     parts[0] = 0;
-    for u in (half..end).step_by(4) {
+    for four in half / 4..end.div_ceil(4) {
+        let u = 4 * four;
         let i = u32::trailing_zeros(u as u32) as usize;
         let d = u32::count_ones(u as u32) as usize;
         let part = run[(i + 1) * 21 + d] + parts[u - (1 << i)];

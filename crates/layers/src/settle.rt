@@ -20,8 +20,9 @@ fn reduce_each(bins: &mut [u32], step: usize)
     requires paired { Paired step bins.old }
     ensures { Stepped step (length bins.old / (2 * step)) bins.old bins.new }
 {
-    for at in (0..bins.len()).step_by(2 * step) {
-        reduce(bins, at, step);
+    let pair = 2 * step;
+    for turn in 0..bins.len() / pair {
+        reduce(bins, turn * pair, step);
     }
 }
 
@@ -30,7 +31,8 @@ fn reduce_fours(bins: &mut [u32])
     requires { FallsInFours bins.old }
     ensures { Fours (length bins.old) bins.old bins.new }
 {
-    for at in (0..bins.len()).step_by(4) {
+    for four in 0..bins.len() / 4 {
+        let at = 4 * four;
         let both = bins[at + 3];
         let first = bins[at + 1];
         let second = bins[at + 2] - both;

@@ -1,5 +1,5 @@
 -- `gather::gather_fours` meets its contract: four numbers at a turn.
-use Prim.Native.Nat.{ℕ, ◌+◌, ◌-◌, ◌*◌, ◌%◌, ◌^◌, ◌≤◌, ◌<◌, min}
+use Prim.Native.Nat.{ℕ, ◌+◌, ◌-◌, ◌*◌, ◌/◌, ◌%◌, ◌^◌, ◌≤◌, ◌<◌, min}
 use mathlib.Core.Path.{◌≡◌, refl, sym, ap, subst, ◌∙◌}
 use mathlib.Core.Logic.{⊎_elim, inl, inr}
 use native.Mathlib.Omega.{arith}
@@ -11,7 +11,7 @@ use Rattle.counting.proofs.Marks.{shifted_one}
 use Rattle.layers.proofs.Picking.{doubled, power_four, four_stays}
 use Rattle.layers.proofs.Gathering.{Turn, turn, Entry, own_entry, second_entry, third_entry, fourth_entry}
 use Rattle.layers.proofs.Gathering.{Parts, parts_none, part_before, parts_more, Entries, entries_none, entries_more, entries_three}
-use Rattle.layers.proofs.gather.gather_fours.Goals.{In-loop-u, Start, else-u-end, then-u-end}
+use Rattle.layers.proofs.gather.gather_fours.Goals.{In-loop-four, Start, else-u-end, then-u-end}
 use Rattle.layers.proofs.gather.gather_fours.Goals as goal
 
 -- ---- the places of a turn, in order, and from each where the turn begins
@@ -29,155 +29,165 @@ at_most s = pow_mono s.requires.in_bounds.1
 
 -- ---- the four numbers of a turn
 
-above : (d : In-loop-u) → 1 ≤ d.loop-u.u
-above d = omega (arith, d.loop-u.invariant.0, pow_pos (length d.args.bits.now - 1))
+abbrev now : In-loop-four → ℕ
+now d = 4 * d.loop-four.four
+
+whole : (d : In-loop-four) → now d % 4 ≡ 0
+whole d = omega arith
+
+before : (d : In-loop-four) → now d < d.args.end
+before d = omega (arith, d.loop-four-test.true, d.div_ceil-four-end.ensures)
+
+above : (d : In-loop-four) → 1 ≤ now d
+above d = omega (arith, d.loop-four.invariant.0, pow_pos (length d.args.bits.now - 1))
 
 -- all are below the number of all subsets, which is a multiple of 4 too
-below : (d : In-loop-u) → d.loop-u.u + 4 ≤ 2 ^ length d.args.bits.now
+below : (d : In-loop-four) → now d + 4 ≤ 2 ^ length d.args.bits.now
 below d =
-    omega (arith, d.loop-u-test.true, d.requires.k_bound.1, d.loop-u.invariant.1, power_four (length d.args.bits.now) (omega (arith, d.requires.in_bounds.0)))
+    omega (arith, before d, d.requires.k_bound.1, whole d, power_four (length d.args.bits.now) (omega (arith, d.requires.in_bounds.0)))
 
 -- and all but the last are gathered
-within : (d : In-loop-u) → d.loop-u.u + 3 ≤ d.args.end
+within : (d : In-loop-four) → now d + 3 ≤ d.args.end
 within d = omega (arith, below d, d.requires.k_bound.2)
 
-now_turn : (d : In-loop-u)
+now_turn : (d : In-loop-four)
     → let a = d.args in
-    let u = d.loop-u.u in
+    let u = now d in
     Turn a.block_size a.k a.bits.now a.store.now a.run.now u (count_trailing_zeros 32 u) (ones u)
 now_turn d =
     let a = d.args in
     turn a.block_size a.k a.bits.now a.store.now a.run.now d.requires.in_bounds.1 d.requires.k_bound.0 d.requires.subset d.requires.roomy d.requires.tables
-    d.loop-u.u (above d) (omega (arith, below d)) (d.requires.k_bound.3 d.loop-u.u d.loop-u-test.true)
+    (now d) (above d) (omega (arith, below d)) (d.requires.k_bound.3 (now d) (before d))
 
-few : (d : In-loop-u) → (count_trailing_zeros 32 d.loop-u.u < 20) × (ones d.loop-u.u ≤ 20)
+few : (d : In-loop-four) → (count_trailing_zeros 32 (now d) < 20) × (ones (now d) ≤ 20)
 few d = (omega (arith, (now_turn d).place, d.requires.in_bounds), omega (arith, (now_turn d).width, d.requires.k_bound.0))
 
 -- the lowest one, as a power
-low_is : (d : In-loop-u) → let i = count_trailing_zeros 32 d.loop-u.u in 1 * 2 ^ i % 2 ^ 64 ≡ 2 ^ i
-low_is d = shifted_one 64 (count_trailing_zeros 32 d.loop-u.u) (omega (arith, (few d).0))
+low_is : (d : In-loop-four) → let i = count_trailing_zeros 32 (now d) in 1 * 2 ^ i % 2 ^ 64 ≡ 2 ^ i
+low_is d = shifted_one 64 (count_trailing_zeros 32 (now d)) (omega (arith, (few d).0))
 
 -- the parts that the code works out: that of the first without its lowest one, of the first, of the third
-abbrev rest_part : In-loop-u → ℕ
+abbrev rest_part : In-loop-four → ℕ
 rest_part d =
-    let u = d.loop-u.u in
-    get_or d.loop-u.parts (u - 1 * 2 ^ count_trailing_zeros 32 u % 2 ^ 64) 0
+    let u = now d in
+    get_or d.loop-four.parts (u - 1 * 2 ^ count_trailing_zeros 32 u % 2 ^ 64) 0
 
-abbrev first_part : In-loop-u → ℕ
+abbrev first_part : In-loop-four → ℕ
 first_part d =
-    let u = d.loop-u.u in
+    let u = now d in
     get_or d.args.run.now ((count_trailing_zeros 32 u + 1) * 21 + ones u) 0 + rest_part d
 
-abbrev third-part : In-loop-u → ℕ
-third-part d = get_or d.args.run.now (43 + ones d.loop-u.u) 0 + first_part d
+abbrev third-part : In-loop-four → ℕ
+third-part d = get_or d.args.run.now (43 + ones (now d)) 0 + first_part d
 
-abbrev At : (d : In-loop-u) (w t y x : ℕ) → Type 0
+abbrev At : (d : In-loop-four) (w t y x : ℕ) → Type 0
 At d w t y x =
     let a = d.args in
     Entry a.block_size a.k a.bits.now a.store.now a.run.now w t y x
 
-first : (d : In-loop-u)
-    → let u = d.loop-u.u in
+first : (d : In-loop-four)
+    → let u = now d in
     At d u (ones u) ((count_trailing_zeros 32 u + 1) * 21 + ones u) (rest_part d)
 first d =
     let a = d.args in
-    let l = d.loop-u in
-    let i : ℕ = count_trailing_zeros 32 l.u in
-    let e : l.u - 1 * 2 ^ i % 2 ^ 64 ≡ l.u - 2 ^ i = ap (λ (x : ℕ). l.u - x) (low_is d) in
+    let l = d.loop-four in
+    let i : ℕ = count_trailing_zeros 32 (now d) in
+    let e : (now d) - 1 * 2 ^ i % 2 ^ 64 ≡ (now d) - 2 ^ i = ap (λ (x : ℕ). (now d) - x) (low_is d) in
     own_entry a.block_size a.k a.bits.now a.store.now a.run.now d.requires.in_bounds.1 d.requires.k_bound.0 d.requires.subset d.requires.roomy d.requires.tables
-    l.u (rest_part d) (above d) (omega (arith, below d)) (d.requires.k_bound.3 l.u d.loop-u-test.true)
+    (now d) (rest_part d) (above d) (omega (arith, below d)) (d.requires.k_bound.3 (now d) (before d))
     (ap (λ (x : ℕ). get_or l.parts x 0) e
-    ∙ part_before a.block_size a.bits.now (set a.parts.now 0 0) (2 ^ (length a.bits.now - 1)) 4 l.u l.parts l.invariant.2
-    refl (omega (arith, d.requires.in_bounds.0)) d.requires.in_bounds.1 l.invariant.0 (omega (arith, below d)) (four_stays 30 l.u l.invariant.1))
+    ∙ part_before a.block_size a.bits.now (set a.parts.now 0 0) (2 ^ (length a.bits.now - 1)) 4 (now d) l.parts l.invariant.1
+    refl (omega (arith, d.requires.in_bounds.0)) d.requires.in_bounds.1 l.invariant.0 (omega (arith, below d)) (four_stays 30 (now d) (whole d)))
 
-second : (d : In-loop-u)
-    → let u = d.loop-u.u in
+second : (d : In-loop-four)
+    → let u = now d in
     At d (u + 1) (ones u + 1) (22 + ones u) (first_part d)
 second d =
     let a = d.args in
-    let l = d.loop-u in
+    let l = d.loop-four in
     second_entry a.block_size a.k a.bits.now a.store.now a.run.now d.requires.in_bounds.1 d.requires.k_bound.0 d.requires.subset d.requires.roomy d.requires.tables
-    l.u (first_part d) l.invariant.1 (omega (arith, below d)) (d.requires.k_bound.3 (l.u + 1) (omega (arith, within d))) (first d).part
+    (now d) (first_part d) (whole d) (omega (arith, below d)) (d.requires.k_bound.3 (now d + 1) (omega (arith, within d))) (first d).part
 
-third : (d : In-loop-u)
-    → let u = d.loop-u.u in
+third : (d : In-loop-four)
+    → let u = now d in
     At d (u + 2) (ones u + 1) (43 + ones u) (first_part d)
 third d =
     let a = d.args in
-    let l = d.loop-u in
+    let l = d.loop-four in
     third_entry a.block_size a.k a.bits.now a.store.now a.run.now d.requires.in_bounds.1 d.requires.k_bound.0 d.requires.subset d.requires.roomy d.requires.tables
-    l.u (first_part d) l.invariant.1 (omega (arith, below d)) (d.requires.k_bound.3 (l.u + 2) (omega (arith, within d))) (first d).part
+    (now d) (first_part d) (whole d) (omega (arith, below d)) (d.requires.k_bound.3 (now d + 2) (omega (arith, within d))) (first d).part
 
-fourth : (d : In-loop-u)
-    → let u = d.loop-u.u in
+fourth : (d : In-loop-four)
+    → let u = now d in
     u + 3 < d.args.end → At d (u + 3) (ones u + 2) (23 + ones u) (third-part d)
 fourth d h =
     let a = d.args in
-    let l = d.loop-u in
+    let l = d.loop-four in
     fourth_entry a.block_size a.k a.bits.now a.store.now a.run.now d.requires.in_bounds.1 d.requires.k_bound.0 d.requires.subset d.requires.roomy d.requires.tables
-    l.u (third-part d) l.invariant.1 (omega (arith, below d)) (d.requires.k_bound.3 (l.u + 3) h) (third d).part
+    (now d) (third-part d) (whole d) (omega (arith, below d)) (d.requires.k_bound.3 (now d + 3) h) (third d).part
 
 -- the buffers hold them
-in_parts : (d : In-loop-u) → d.loop-u.u + 4 ≤ length d.loop-u.parts
+in_parts : (d : In-loop-four) → now d + 4 ≤ length d.loop-four.parts
 in_parts d =
-    omega (arith, below d, d.loop-u.invariant.2.size, length-set d.args.parts.now 0 0, d.requires.bits_in_bounds.0)
+    omega (arith, below d, d.loop-four.invariant.1.size, length-set d.args.parts.now 0 0, d.requires.bits_in_bounds.0)
 
-in_bins : (d : In-loop-u) (j : ℕ) → j < 4 → d.loop-u.u + j < length d.loop-u.bins
+in_bins : (d : In-loop-four) (j : ℕ) → j < 4 → (now d) + j < length d.loop-four.bins
 in_bins d j h =
-    omega (arith, below d, d.loop-u.invariant.3.size, d.requires.bits_in_bounds.1)
+    omega (arith, below d, d.loop-four.invariant.2.size, d.requires.bits_in_bounds.1)
 
 -- a turn keeps a part
-more_parts : (d : In-loop-u)
+more_parts : (d : In-loop-four)
     → let a = d.args in
-    let u = d.loop-u.u in
-    Parts a.block_size a.bits.now (set a.parts.now 0 0) (2 ^ (length a.bits.now - 1)) 4 (u + 4) (set d.loop-u.parts u (first_part d))
+    let u = now d in
+    Parts a.block_size a.bits.now (set a.parts.now 0 0) (2 ^ (length a.bits.now - 1)) 4 (u + 4) (set d.loop-four.parts u (first_part d))
 more_parts d =
     let a = d.args in
-    let l = d.loop-u in
-    parts_more a.block_size a.bits.now (set a.parts.now 0 0) (2 ^ (length a.bits.now - 1)) 4 l.u l.parts l.invariant.2 (l.u + 4) _
+    let l = d.loop-four in
+    parts_more a.block_size a.bits.now (set a.parts.now 0 0) (2 ^ (length a.bits.now - 1)) 4 (now d) l.parts l.invariant.1 (now d + 4) _
     (pow_pos (length a.bits.now - 1)) l.invariant.0 (omega (arith, below d)) (omega (arith, in_parts d))
-    (λ w low high z. omega (arith, l.invariant.1)) (first d).part
+    (λ w low high z. omega (arith, whole d)) (first d).part
 
 -- so many entries stood before it
-read : (d : In-loop-u)
-    → let a = d.args in Entries a.block_size a.k a.bits.now a.store.now a.bins.now (2 ^ (length a.bits.now - 1)) d.loop-u.u d.loop-u.bins
+read : (d : In-loop-four)
+    → let a = d.args in Entries a.block_size a.k a.bits.now a.store.now a.bins.now (2 ^ (length a.bits.now - 1)) (now d) d.loop-four.bins
 read d =
     let a = d.args in
-    let now : min d.loop-u.u a.end ≡ d.loop-u.u = omega (arith, d.loop-u-test.true) in
-    subst (λ (x : ℕ). Entries a.block_size a.k a.bits.now a.store.now a.bins.now (2 ^ (length a.bits.now - 1)) x d.loop-u.bins) now d.loop-u.invariant.3
+    let here : min (now d) a.end ≡ now d = omega (arith, before d) in
+    subst (λ (x : ℕ). Entries a.block_size a.k a.bits.now a.store.now a.bins.now (2 ^ (length a.bits.now - 1)) x d.loop-four.bins) here d.loop-four.invariant.2
 
-room : (d : In-loop-u) → d.loop-u.u + 4 ≤ length d.args.bins.now
+room : (d : In-loop-four) → now d + 4 ≤ length d.args.bins.now
 room d = omega (arith, below d, d.requires.bits_in_bounds.1)
 
 pub bounds-parts-0 : goal.bounds-parts-0
-bounds-parts-0 c = some_parts c
+bounds-parts-0 c = some_parts (goal.at.bounds-parts-0 c).Start
 
-pub loop-u-init : goal.loop-u-init
-loop-u-init c =
+pub loop-four-init : goal.loop-four-init
+loop-four-init c =
     let a = c.args in
-    let from : ℕ = 2 ^ (length a.bits.now - 1) in
-    let four : from % 4 ≡ 0 = power_four (length a.bits.now - 1) (omega (arith, c.requires.in_bounds)) in
-    let grows : 2 ^ (length a.bits.now - 1) * 2 ≡ 2 ^ length a.bits.now = doubled (length a.bits.now) (omega (arith, c.requires.in_bounds)) in
-    let start : min (1 * 2 ^ (length a.bits.now - 1) % 2 ^ 64) a.end ≡ from = omega (arith, from_is c, pow_pos (length a.bits.now - 1), c.requires.k_bound.2) in (
-      omega (arith, from_is c),
-      omega (arith, from_is c),
-      subst (λ (x : ℕ). Parts a.block_size a.bits.now (set a.parts.now 0 0) from 4 x (set a.parts.now 0 0)) (sym (from_is c))
-          (parts_none a.block_size a.bits.now (set a.parts.now 0 0) from 4 (get_or-set_same a.parts.now 0 0 0 (some_parts c))),
-      subst (λ (x : ℕ). Entries a.block_size a.k a.bits.now a.store.now a.bins.now from x a.bins.now) (sym start)
+    let s = (goal.at.loop-four-init c).Start in
+    let m : ℕ = length a.bits.now - 1 in
+    let from : ℕ = 2 ^ m in
+    let start : 4 * (1 * 2 ^ m % 2 ^ 64 / 4) ≡ from = omega (arith, from_is s, power_four m (omega (arith, c.requires.in_bounds))) in
+    let grows : from * 2 ≡ 2 ^ length a.bits.now = doubled (length a.bits.now) (omega (arith, c.requires.in_bounds)) in
+    let least : min from a.end ≡ from = omega (arith, pow_pos m, c.requires.k_bound.2) in
+    rw start (
+      omega arith,
+      parts_none a.block_size a.bits.now (set a.parts.now 0 0) from 4 (get_or-set_same a.parts.now 0 0 0 (some_parts s)),
+      subst (λ (x : ℕ). Entries a.block_size a.k a.bits.now a.store.now a.bins.now from x a.bins.now) (sym least)
           (entries_none a.block_size a.k a.bits.now a.store.now a.bins.now from),
     )
 
 pub overflow_cast-i : goal.overflow_cast-i
 overflow_cast-i c = omega (arith, below c, at_most (goal.at.overflow_cast-i c).Start)
 
-pub overflow_cast-i-in-loop-u : goal.overflow_cast-i-in-loop-u
-overflow_cast-i-in-loop-u c = omega (arith, few c)
+pub overflow_cast-i-in-loop-four : goal.overflow_cast-i-in-loop-four
+overflow_cast-i-in-loop-four c = omega (arith, few c)
 
 pub overflow_cast-d : goal.overflow_cast-d
 overflow_cast-d c = omega (arith, below c, at_most (goal.at.overflow_cast-d c).Start)
 
-pub overflow_cast-d-in-loop-u : goal.overflow_cast-d-in-loop-u
-overflow_cast-d-in-loop-u c = omega (arith, few c)
+pub overflow_cast-d-in-loop-four : goal.overflow_cast-d-in-loop-four
+overflow_cast-d-in-loop-four c = omega (arith, few c)
 
 pub overflow_add-part : goal.overflow_add-part
 overflow_add-part c = omega (arith, few c)
@@ -185,234 +195,212 @@ overflow_add-part c = omega (arith, few c)
 pub overflow_mul-part : goal.overflow_mul-part
 overflow_mul-part c = omega (arith, few c)
 
-pub overflow_add-part-in-loop-u : goal.overflow_add-part-in-loop-u
-overflow_add-part-in-loop-u c = omega (arith, few c)
+pub overflow_add-part-in-loop-four : goal.overflow_add-part-in-loop-four
+overflow_add-part-in-loop-four c = omega (arith, few c)
 
 pub offset_bounds-run-i : goal.offset_bounds-run-i
 offset_bounds-run-i c = omega (arith, few c)
 
 pub bounds-run-i : goal.bounds-run-i
-bounds-run-i c = (first (goal.at.bounds-run-i c).In-loop-u).way_in
+bounds-run-i c = (first (goal.at.bounds-run-i c).In-loop-four).way_in
 
 pub overflow_shl-part : goal.overflow_shl-part
-overflow_shl-part c = omega (arith, few (goal.at.overflow_shl-part c).In-loop-u)
+overflow_shl-part c = omega (arith, few (goal.at.overflow_shl-part c).In-loop-four)
 
 pub overflow_sub-part : goal.overflow_sub-part
-overflow_sub-part c = omega (arith, low_is (goal.at.overflow_sub-part c).In-loop-u, (now_turn (goal.at.overflow_sub-part c).In-loop-u).has)
+overflow_sub-part c = omega (arith, low_is (goal.at.overflow_sub-part c).In-loop-four, (now_turn (goal.at.overflow_sub-part c).In-loop-four).has)
 
 pub offset_bounds-parts-u : goal.offset_bounds-parts-u
-offset_bounds-parts-u c = omega (arith, below (goal.at.offset_bounds-parts-u c).In-loop-u, at_most (goal.at.offset_bounds-parts-u c).Start)
+offset_bounds-parts-u c = omega (arith, below (goal.at.offset_bounds-parts-u c).In-loop-four, at_most (goal.at.offset_bounds-parts-u c).Start)
 
 pub bounds-parts-u : goal.bounds-parts-u
-bounds-parts-u c = omega (arith, in_parts (goal.at.bounds-parts-u c).In-loop-u)
+bounds-parts-u c = omega (arith, in_parts (goal.at.bounds-parts-u c).In-loop-four)
 
-pub overflow_add-part-in-loop-u-2 : goal.overflow_add-part-in-loop-u-2
-overflow_add-part-in-loop-u-2 c = omega (arith, (first (goal.at.overflow_add-part-in-loop-u-2 c).In-loop-u).small)
+pub overflow_add-part-in-loop-four-2 : goal.overflow_add-part-in-loop-four-2
+overflow_add-part-in-loop-four-2 c = omega (arith, (first (goal.at.overflow_add-part-in-loop-four-2 c).In-loop-four).small)
 
-pub offset_bounds-parts-u-in-loop-u : goal.offset_bounds-parts-u-in-loop-u
-offset_bounds-parts-u-in-loop-u c = omega (arith, below (goal.at.offset_bounds-parts-u-in-loop-u c).In-loop-u, at_most (goal.at.offset_bounds-parts-u-in-loop-u c).Start)
+pub offset_bounds-parts-u-in-loop-four : goal.offset_bounds-parts-u-in-loop-four
+offset_bounds-parts-u-in-loop-four c = omega (arith, below (goal.at.offset_bounds-parts-u-in-loop-four c).In-loop-four, at_most (goal.at.offset_bounds-parts-u-in-loop-four c).Start)
 
-pub bounds-parts-u-in-loop-u : goal.bounds-parts-u-in-loop-u
-bounds-parts-u-in-loop-u c = omega (arith, in_parts (goal.at.bounds-parts-u-in-loop-u c).In-loop-u)
+pub bounds-parts-u-in-loop-four : goal.bounds-parts-u-in-loop-four
+bounds-parts-u-in-loop-four c = omega (arith, in_parts (goal.at.bounds-parts-u-in-loop-four c).In-loop-four)
 
 pub overflow_add-third : goal.overflow_add-third
-overflow_add-third c = omega (arith, few (goal.at.overflow_add-third c).In-loop-u)
+overflow_add-third c = omega (arith, few (goal.at.overflow_add-third c).In-loop-four)
 
 pub offset_bounds-run-d : goal.offset_bounds-run-d
-offset_bounds-run-d c = omega (arith, few (goal.at.offset_bounds-run-d c).In-loop-u)
+offset_bounds-run-d c = omega (arith, few (goal.at.offset_bounds-run-d c).In-loop-four)
 
 pub bounds-run-d : goal.bounds-run-d
-bounds-run-d c = (third (goal.at.bounds-run-d c).In-loop-u).way_in
+bounds-run-d c = (third (goal.at.bounds-run-d c).In-loop-four).way_in
 
-pub overflow_add-third-in-loop-u : goal.overflow_add-third-in-loop-u
-overflow_add-third-in-loop-u c = omega (arith, (third (goal.at.overflow_add-third-in-loop-u c).In-loop-u).small)
+pub overflow_add-third-in-loop-four : goal.overflow_add-third-in-loop-four
+overflow_add-third-in-loop-four c = omega (arith, (third (goal.at.overflow_add-third-in-loop-four c).In-loop-four).small)
 
 pub overflow_add-top : goal.overflow_add-top
-overflow_add-top c = omega (arith, few (goal.at.overflow_add-top c).In-loop-u)
+overflow_add-top c = omega (arith, few (goal.at.overflow_add-top c).In-loop-four)
 
-pub offset_bounds-run-d-in-loop-u : goal.offset_bounds-run-d-in-loop-u
-offset_bounds-run-d-in-loop-u c = omega (arith, few (goal.at.offset_bounds-run-d-in-loop-u c).In-loop-u)
+pub offset_bounds-run-d-in-loop-four : goal.offset_bounds-run-d-in-loop-four
+offset_bounds-run-d-in-loop-four c = omega (arith, few (goal.at.offset_bounds-run-d-in-loop-four c).In-loop-four)
 
-pub bounds-run-d-in-loop-u : goal.bounds-run-d-in-loop-u
-bounds-run-d-in-loop-u c = (third (goal.at.bounds-run-d-in-loop-u c).In-loop-u).top_in
+pub bounds-run-d-in-loop-four : goal.bounds-run-d-in-loop-four
+bounds-run-d-in-loop-four c = (third (goal.at.bounds-run-d-in-loop-four c).In-loop-four).top_in
 
-pub offset_bounds-run-d-in-loop-u-2 : goal.offset_bounds-run-d-in-loop-u-2
-offset_bounds-run-d-in-loop-u-2 c = omega (arith, few (goal.at.offset_bounds-run-d-in-loop-u-2 c).In-loop-u)
+pub offset_bounds-run-d-in-loop-four-2 : goal.offset_bounds-run-d-in-loop-four-2
+offset_bounds-run-d-in-loop-four-2 c = omega (arith, few (goal.at.offset_bounds-run-d-in-loop-four-2 c).In-loop-four)
 
-pub bounds-run-d-in-loop-u-2 : goal.bounds-run-d-in-loop-u-2
-bounds-run-d-in-loop-u-2 c = (first (goal.at.bounds-run-d-in-loop-u-2 c).In-loop-u).top_in
+pub bounds-run-d-in-loop-four-2 : goal.bounds-run-d-in-loop-four-2
+bounds-run-d-in-loop-four-2 c = (first (goal.at.bounds-run-d-in-loop-four-2 c).In-loop-four).top_in
 
 pub overflow_sub-bins : goal.overflow_sub-bins
-overflow_sub-bins c = (first (goal.at.overflow_sub-bins c).In-loop-u).under_top
+overflow_sub-bins c = (first (goal.at.overflow_sub-bins c).In-loop-four).under_top
 
 pub overflow_cast-bins : goal.overflow_cast-bins
-overflow_cast-bins c = omega (arith, (first (goal.at.overflow_cast-bins c).In-loop-u).inside, c.well_formed)
+overflow_cast-bins c = omega (arith, (first (goal.at.overflow_cast-bins c).In-loop-four).inside, c.well_formed)
 
 pub offset_bounds-store-run : goal.offset_bounds-store-run
-offset_bounds-store-run c = omega (arith, (first (goal.at.offset_bounds-store-run c).In-loop-u).inside, c.well_formed)
+offset_bounds-store-run c = omega (arith, (first (goal.at.offset_bounds-store-run c).In-loop-four).inside, c.well_formed)
 
 pub bounds-store-run : goal.bounds-store-run
-bounds-store-run c = (first (goal.at.bounds-store-run c).In-loop-u).inside
+bounds-store-run c = (first (goal.at.bounds-store-run c).In-loop-four).inside
 
 pub offset_bounds-bins-u : goal.offset_bounds-bins-u
-offset_bounds-bins-u c = omega (arith, below (goal.at.offset_bounds-bins-u c).In-loop-u, at_most (goal.at.offset_bounds-bins-u c).Start)
+offset_bounds-bins-u c = omega (arith, below (goal.at.offset_bounds-bins-u c).In-loop-four, at_most (goal.at.offset_bounds-bins-u c).Start)
 
 pub bounds-bins-u : goal.bounds-bins-u
-bounds-bins-u c = omega (arith, in_bins (goal.at.bounds-bins-u c).In-loop-u 3 (omega arith))
+bounds-bins-u c = omega (arith, in_bins (goal.at.bounds-bins-u c).In-loop-four 3 (omega arith))
 
 pub overflow_add-bins : goal.overflow_add-bins
-overflow_add-bins c = omega (arith, few (goal.at.overflow_add-bins c).In-loop-u)
+overflow_add-bins c = omega (arith, few (goal.at.overflow_add-bins c).In-loop-four)
 
-pub offset_bounds-run-d-in-loop-u-3 : goal.offset_bounds-run-d-in-loop-u-3
-offset_bounds-run-d-in-loop-u-3 c = omega (arith, few (goal.at.offset_bounds-run-d-in-loop-u-3 c).In-loop-u)
+pub offset_bounds-run-d-in-loop-four-3 : goal.offset_bounds-run-d-in-loop-four-3
+offset_bounds-run-d-in-loop-four-3 c = omega (arith, few (goal.at.offset_bounds-run-d-in-loop-four-3 c).In-loop-four)
 
-pub bounds-run-d-in-loop-u-3 : goal.bounds-run-d-in-loop-u-3
-bounds-run-d-in-loop-u-3 c = (second (goal.at.bounds-run-d-in-loop-u-3 c).In-loop-u).way_in
+pub bounds-run-d-in-loop-four-3 : goal.bounds-run-d-in-loop-four-3
+bounds-run-d-in-loop-four-3 c = (second (goal.at.bounds-run-d-in-loop-four-3 c).In-loop-four).way_in
 
-pub overflow_add-bins-in-loop-u : goal.overflow_add-bins-in-loop-u
-overflow_add-bins-in-loop-u c = omega (arith, (second (goal.at.overflow_add-bins-in-loop-u c).In-loop-u).small)
+pub overflow_add-bins-in-loop-four : goal.overflow_add-bins-in-loop-four
+overflow_add-bins-in-loop-four c = omega (arith, (second (goal.at.overflow_add-bins-in-loop-four c).In-loop-four).small)
 
-pub overflow_sub-bins-in-loop-u : goal.overflow_sub-bins-in-loop-u
-overflow_sub-bins-in-loop-u c = (second (goal.at.overflow_sub-bins-in-loop-u c).In-loop-u).under_top
+pub overflow_sub-bins-in-loop-four : goal.overflow_sub-bins-in-loop-four
+overflow_sub-bins-in-loop-four c = (second (goal.at.overflow_sub-bins-in-loop-four c).In-loop-four).under_top
 
-pub overflow_cast-bins-in-loop-u : goal.overflow_cast-bins-in-loop-u
-overflow_cast-bins-in-loop-u c = omega (arith, (second (goal.at.overflow_cast-bins-in-loop-u c).In-loop-u).inside, c.well_formed)
+pub overflow_cast-bins-in-loop-four : goal.overflow_cast-bins-in-loop-four
+overflow_cast-bins-in-loop-four c = omega (arith, (second (goal.at.overflow_cast-bins-in-loop-four c).In-loop-four).inside, c.well_formed)
 
 pub offset_bounds-store-top : goal.offset_bounds-store-top
-offset_bounds-store-top c = omega (arith, (second (goal.at.offset_bounds-store-top c).In-loop-u).inside, c.well_formed)
+offset_bounds-store-top c = omega (arith, (second (goal.at.offset_bounds-store-top c).In-loop-four).inside, c.well_formed)
 
 pub bounds-store-top : goal.bounds-store-top
-bounds-store-top c = (second (goal.at.bounds-store-top c).In-loop-u).inside
+bounds-store-top c = (second (goal.at.bounds-store-top c).In-loop-four).inside
 
-pub overflow_add-bins-in-loop-u-2 : goal.overflow_add-bins-in-loop-u-2
-overflow_add-bins-in-loop-u-2 c = omega (arith, below (goal.at.overflow_add-bins-in-loop-u-2 c).In-loop-u, at_most (goal.at.overflow_add-bins-in-loop-u-2 c).Start)
+pub overflow_add-bins-in-loop-four-2 : goal.overflow_add-bins-in-loop-four-2
+overflow_add-bins-in-loop-four-2 c = omega (arith, below (goal.at.overflow_add-bins-in-loop-four-2 c).In-loop-four, at_most (goal.at.overflow_add-bins-in-loop-four-2 c).Start)
 
-pub offset_bounds-bins-u-in-loop-u : goal.offset_bounds-bins-u-in-loop-u
-offset_bounds-bins-u-in-loop-u c = omega (arith, below (goal.at.offset_bounds-bins-u-in-loop-u c).In-loop-u, at_most (goal.at.offset_bounds-bins-u-in-loop-u c).Start)
+pub offset_bounds-bins-u-in-loop-four : goal.offset_bounds-bins-u-in-loop-four
+offset_bounds-bins-u-in-loop-four c = omega (arith, below (goal.at.offset_bounds-bins-u-in-loop-four c).In-loop-four, at_most (goal.at.offset_bounds-bins-u-in-loop-four c).Start)
 
-pub bounds-bins-u-in-loop-u : goal.bounds-bins-u-in-loop-u
-bounds-bins-u-in-loop-u c = simp length-set (in_bins (goal.at.bounds-bins-u-in-loop-u c).In-loop-u 1 (omega arith))
+pub bounds-bins-u-in-loop-four : goal.bounds-bins-u-in-loop-four
+bounds-bins-u-in-loop-four c = simp length-set (in_bins (goal.at.bounds-bins-u-in-loop-four c).In-loop-four 1 (omega arith))
 
-pub overflow_sub-bins-in-loop-u-2 : goal.overflow_sub-bins-in-loop-u-2
-overflow_sub-bins-in-loop-u-2 c = (third (goal.at.overflow_sub-bins-in-loop-u-2 c).In-loop-u).under_top
+pub overflow_sub-bins-in-loop-four-2 : goal.overflow_sub-bins-in-loop-four-2
+overflow_sub-bins-in-loop-four-2 c = (third (goal.at.overflow_sub-bins-in-loop-four-2 c).In-loop-four).under_top
 
-pub overflow_cast-bins-in-loop-u-2 : goal.overflow_cast-bins-in-loop-u-2
-overflow_cast-bins-in-loop-u-2 c = omega (arith, (third (goal.at.overflow_cast-bins-in-loop-u-2 c).In-loop-u).inside, c.well_formed)
+pub overflow_cast-bins-in-loop-four-2 : goal.overflow_cast-bins-in-loop-four-2
+overflow_cast-bins-in-loop-four-2 c = omega (arith, (third (goal.at.overflow_cast-bins-in-loop-four-2 c).In-loop-four).inside, c.well_formed)
 
-pub offset_bounds-store-top-in-loop-u : goal.offset_bounds-store-top-in-loop-u
-offset_bounds-store-top-in-loop-u c = omega (arith, (third (goal.at.offset_bounds-store-top-in-loop-u c).In-loop-u).inside, c.well_formed)
+pub offset_bounds-store-top-in-loop-four : goal.offset_bounds-store-top-in-loop-four
+offset_bounds-store-top-in-loop-four c = omega (arith, (third (goal.at.offset_bounds-store-top-in-loop-four c).In-loop-four).inside, c.well_formed)
 
-pub bounds-store-top-in-loop-u : goal.bounds-store-top-in-loop-u
-bounds-store-top-in-loop-u c = (third (goal.at.bounds-store-top-in-loop-u c).In-loop-u).inside
+pub bounds-store-top-in-loop-four : goal.bounds-store-top-in-loop-four
+bounds-store-top-in-loop-four c = (third (goal.at.bounds-store-top-in-loop-four c).In-loop-four).inside
 
-pub overflow_add-bins-in-loop-u-3 : goal.overflow_add-bins-in-loop-u-3
-overflow_add-bins-in-loop-u-3 c = omega (arith, below (goal.at.overflow_add-bins-in-loop-u-3 c).In-loop-u, at_most (goal.at.overflow_add-bins-in-loop-u-3 c).Start)
+pub overflow_add-bins-in-loop-four-3 : goal.overflow_add-bins-in-loop-four-3
+overflow_add-bins-in-loop-four-3 c = omega (arith, below (goal.at.overflow_add-bins-in-loop-four-3 c).In-loop-four, at_most (goal.at.overflow_add-bins-in-loop-four-3 c).Start)
 
-pub offset_bounds-bins-u-in-loop-u-2 : goal.offset_bounds-bins-u-in-loop-u-2
-offset_bounds-bins-u-in-loop-u-2 c = omega (arith, below (goal.at.offset_bounds-bins-u-in-loop-u-2 c).In-loop-u, at_most (goal.at.offset_bounds-bins-u-in-loop-u-2 c).Start)
+pub offset_bounds-bins-u-in-loop-four-2 : goal.offset_bounds-bins-u-in-loop-four-2
+offset_bounds-bins-u-in-loop-four-2 c = omega (arith, below (goal.at.offset_bounds-bins-u-in-loop-four-2 c).In-loop-four, at_most (goal.at.offset_bounds-bins-u-in-loop-four-2 c).Start)
 
-pub bounds-bins-u-in-loop-u-2 : goal.bounds-bins-u-in-loop-u-2
-bounds-bins-u-in-loop-u-2 c = simp length-set (in_bins (goal.at.bounds-bins-u-in-loop-u-2 c).In-loop-u 2 (omega arith))
+pub bounds-bins-u-in-loop-four-2 : goal.bounds-bins-u-in-loop-four-2
+bounds-bins-u-in-loop-four-2 c = simp length-set (in_bins (goal.at.bounds-bins-u-in-loop-four-2 c).In-loop-four 2 (omega arith))
 
 pub overflow_add-u : goal.overflow_add-u
-overflow_add-u c = omega (arith, below (goal.at.overflow_add-u c).In-loop-u, at_most (goal.at.overflow_add-u c).Start)
+overflow_add-u c = omega (arith, below (goal.at.overflow_add-u c).In-loop-four, at_most (goal.at.overflow_add-u c).Start)
 
 pub overflow_add-bins-then-u-end : goal.overflow_add-bins-then-u-end
-overflow_add-bins-then-u-end c = omega (arith, few (goal.at.overflow_add-bins-then-u-end c).In-loop-u)
+overflow_add-bins-then-u-end c = omega (arith, few (goal.at.overflow_add-bins-then-u-end c).In-loop-four)
 
 pub offset_bounds-run-d-then-u-end : goal.offset_bounds-run-d-then-u-end
-offset_bounds-run-d-then-u-end c = omega (arith, few (goal.at.offset_bounds-run-d-then-u-end c).In-loop-u)
+offset_bounds-run-d-then-u-end c = omega (arith, few (goal.at.offset_bounds-run-d-then-u-end c).In-loop-four)
 
 pub bounds-run-d-then-u-end : goal.bounds-run-d-then-u-end
-bounds-run-d-then-u-end c = (fourth (goal.at.bounds-run-d-then-u-end c).In-loop-u c.if-u-end.true).top_in
+bounds-run-d-then-u-end c = (fourth (goal.at.bounds-run-d-then-u-end c).In-loop-four c.if-u-end.true).top_in
 
 pub overflow_add-bins-then-u-end-2 : goal.overflow_add-bins-then-u-end-2
-overflow_add-bins-then-u-end-2 c = omega (arith, few (goal.at.overflow_add-bins-then-u-end-2 c).In-loop-u)
+overflow_add-bins-then-u-end-2 c = omega (arith, few (goal.at.overflow_add-bins-then-u-end-2 c).In-loop-four)
 
 pub offset_bounds-run-d-then-u-end-2 : goal.offset_bounds-run-d-then-u-end-2
-offset_bounds-run-d-then-u-end-2 c = omega (arith, few (goal.at.offset_bounds-run-d-then-u-end-2 c).In-loop-u)
+offset_bounds-run-d-then-u-end-2 c = omega (arith, few (goal.at.offset_bounds-run-d-then-u-end-2 c).In-loop-four)
 
 pub bounds-run-d-then-u-end-2 : goal.bounds-run-d-then-u-end-2
-bounds-run-d-then-u-end-2 c = (fourth (goal.at.bounds-run-d-then-u-end-2 c).In-loop-u c.if-u-end.true).way_in
+bounds-run-d-then-u-end-2 c = (fourth (goal.at.bounds-run-d-then-u-end-2 c).In-loop-four c.if-u-end.true).way_in
 
 pub overflow_add-bins-then-u-end-3 : goal.overflow_add-bins-then-u-end-3
-overflow_add-bins-then-u-end-3 c = omega (arith, (fourth (goal.at.overflow_add-bins-then-u-end-3 c).In-loop-u c.if-u-end.true).small)
+overflow_add-bins-then-u-end-3 c = omega (arith, (fourth (goal.at.overflow_add-bins-then-u-end-3 c).In-loop-four c.if-u-end.true).small)
 
 pub overflow_sub-bins-then-u-end : goal.overflow_sub-bins-then-u-end
-overflow_sub-bins-then-u-end c = (fourth (goal.at.overflow_sub-bins-then-u-end c).In-loop-u c.if-u-end.true).under_top
+overflow_sub-bins-then-u-end c = (fourth (goal.at.overflow_sub-bins-then-u-end c).In-loop-four c.if-u-end.true).under_top
 
 pub overflow_cast-bins-then-u-end : goal.overflow_cast-bins-then-u-end
-overflow_cast-bins-then-u-end c = omega (arith, (fourth (goal.at.overflow_cast-bins-then-u-end c).In-loop-u c.if-u-end.true).inside, c.well_formed)
+overflow_cast-bins-then-u-end c = omega (arith, (fourth (goal.at.overflow_cast-bins-then-u-end c).In-loop-four c.if-u-end.true).inside, c.well_formed)
 
 pub offset_bounds-store-run-then-u-end : goal.offset_bounds-store-run-then-u-end
-offset_bounds-store-run-then-u-end c = omega (arith, (fourth (goal.at.offset_bounds-store-run-then-u-end c).In-loop-u c.if-u-end.true).inside, c.well_formed)
+offset_bounds-store-run-then-u-end c = omega (arith, (fourth (goal.at.offset_bounds-store-run-then-u-end c).In-loop-four c.if-u-end.true).inside, c.well_formed)
 
 pub bounds-store-run-then-u-end : goal.bounds-store-run-then-u-end
-bounds-store-run-then-u-end c = (fourth (goal.at.bounds-store-run-then-u-end c).In-loop-u c.if-u-end.true).inside
+bounds-store-run-then-u-end c = (fourth (goal.at.bounds-store-run-then-u-end c).In-loop-four c.if-u-end.true).inside
 
 pub overflow_add-bins-then-u-end-4 : goal.overflow_add-bins-then-u-end-4
-overflow_add-bins-then-u-end-4 c = omega (arith, below (goal.at.overflow_add-bins-then-u-end-4 c).In-loop-u, at_most (goal.at.overflow_add-bins-then-u-end-4 c).Start)
+overflow_add-bins-then-u-end-4 c = omega (arith, below (goal.at.overflow_add-bins-then-u-end-4 c).In-loop-four, at_most (goal.at.overflow_add-bins-then-u-end-4 c).Start)
 
 pub offset_bounds-bins-u-then-u-end : goal.offset_bounds-bins-u-then-u-end
-offset_bounds-bins-u-then-u-end c = omega (arith, below (goal.at.offset_bounds-bins-u-then-u-end c).In-loop-u, at_most (goal.at.offset_bounds-bins-u-then-u-end c).Start)
+offset_bounds-bins-u-then-u-end c = omega (arith, below (goal.at.offset_bounds-bins-u-then-u-end c).In-loop-four, at_most (goal.at.offset_bounds-bins-u-then-u-end c).Start)
 
 pub bounds-bins-u-then-u-end : goal.bounds-bins-u-then-u-end
-bounds-bins-u-then-u-end c = simp length-set (in_bins (goal.at.bounds-bins-u-then-u-end c).In-loop-u 3 (omega arith))
+bounds-bins-u-then-u-end c = simp length-set (in_bins (goal.at.bounds-bins-u-then-u-end c).In-loop-four 3 (omega arith))
 
-pub loop-u-preserved : goal.loop-u-preserved
-loop-u-preserved c =
+pub loop-four-preserved : goal.loop-four-preserved
+loop-four-preserved c =
     let a = c.args in
     let from : ℕ = 2 ^ (length a.bits.now - 1) in
-    let u : ℕ = c.loop-u.u in
-    let d = (goal.at.loop-u-preserved c).In-loop-u in
+    let u : ℕ = 4 * c.loop-four.four in
+    let d = (goal.at.loop-four-preserved c).In-loop-four in
     let entries : Entries a.block_size a.k a.bits.now a.store.now a.bins.now from (min (u + 4) a.end) c.if-u-end.bins =
     elim c.if-u-end.branch [
       | then-u-end w ↦ rw w.bins-is
           (entries_more a.block_size a.k a.bits.now a.store.now a.bins.now from (u + 3) _
-          (entries_three a.block_size a.k a.bits.now a.store.now a.bins.now from u c.loop-u.bins (read d) (u + 3) _ _ _ refl
-          c.loop-u.invariant.0 (omega (arith, room d)) (first d).entry (second d).entry (third d).entry)
-          (min (u + 4) a.end) _ (omega (arith, w.if-u-end.true)) (omega (arith, c.loop-u.invariant.0)) (omega (arith, room d)) (fourth d w.if-u-end.true).entry)
+          (entries_three a.block_size a.k a.bits.now a.store.now a.bins.now from u c.loop-four.bins (read d) (u + 3) _ _ _ refl
+          c.loop-four.invariant.0 (omega (arith, room d)) (first d).entry (second d).entry (third d).entry)
+          (min (u + 4) a.end) _ (omega (arith, w.if-u-end.true)) (omega (arith, c.loop-four.invariant.0)) (omega (arith, room d)) (fourth d w.if-u-end.true).entry)
       | else-u-end w ↦ rw w.bins-is
-          (entries_three a.block_size a.k a.bits.now a.store.now a.bins.now from u c.loop-u.bins (read d) (min (u + 4) a.end) _ _ _
-          (omega (arith, w.if-u-end.false, within d)) c.loop-u.invariant.0 (omega (arith, room d)) (first d).entry (second d).entry (third d).entry)
+          (entries_three a.block_size a.k a.bits.now a.store.now a.bins.now from u c.loop-four.bins (read d) (min (u + 4) a.end) _ _ _
+          (omega (arith, w.if-u-end.false, within d)) c.loop-four.invariant.0 (omega (arith, room d)) (first d).entry (second d).entry (third d).entry)
     ] in
-    (omega (arith, c.loop-u.invariant.0), omega (arith, c.loop-u.invariant.1), more_parts d, entries)
+    let next : 4 * (c.loop-four.four + 1) ≡ u + 4 = omega arith in
+    rw next (omega (arith, c.loop-four.invariant.0), more_parts d, entries)
 
 pub shape_of-parts : goal.shape_of-parts
 shape_of-parts c =
-    c.loop-u.invariant.2.size ∙ length-set c.args.parts.now 0 0
+    c.loop-four.invariant.1.size ∙ length-set c.args.parts.now 0 0
 
 pub shape_of-bins : goal.shape_of-bins
-shape_of-bins c = c.loop-u.invariant.3.size
+shape_of-bins c = c.loop-four.invariant.2.size
 
 pub returns : goal.returns
 returns c =
     let a = c.args in
-    let r = c.loop-u.invariant.3 in record {
-      by_index = λ bit n holds w low high. r.gathered bit n holds w low (omega (arith, c.loop-u-test.false));
-      spared = λ w h. r.spared w (⊎_elim (λ q. inl q) (λ q. inr (omega arith)) h);
-      by_index_2 = λ w h. c.loop-u.invariant.2.rest w h ∙ get_or-set_other a.parts.now 0 w 0 0 (λ q. omega (arith, pow_pos (length a.bits.now)));
-    }
-
-pub returns-after-u-end : goal.returns-after-u-end
-returns-after-u-end c =
-    let a = c.args in
-    let from : ℕ = 2 ^ (length a.bits.now - 1) in
-    let u : ℕ = c.loop-u.u in
-    let d = (goal.at.returns-after-u-end c).In-loop-u in
-    let entries : Entries a.block_size a.k a.bits.now a.store.now a.bins.now from (min (u + 4) a.end) c.if-u-end.bins =
-    elim c.if-u-end.branch [
-      | then-u-end w ↦ rw w.bins-is
-          (entries_more a.block_size a.k a.bits.now a.store.now a.bins.now from (u + 3) _
-          (entries_three a.block_size a.k a.bits.now a.store.now a.bins.now from u c.loop-u.bins (read d) (u + 3) _ _ _ refl
-          c.loop-u.invariant.0 (omega (arith, room d)) (first d).entry (second d).entry (third d).entry)
-          (min (u + 4) a.end) _ (omega (arith, w.if-u-end.true)) (omega (arith, c.loop-u.invariant.0)) (omega (arith, room d)) (fourth d w.if-u-end.true).entry)
-      | else-u-end w ↦ rw w.bins-is
-          (entries_three a.block_size a.k a.bits.now a.store.now a.bins.now from u c.loop-u.bins (read d) (min (u + 4) a.end) _ _ _
-          (omega (arith, w.if-u-end.false, within d)) c.loop-u.invariant.0 (omega (arith, room d)) (first d).entry (second d).entry (third d).entry)
-    ] in
-    record {
-      by_index = λ bit n holds w low high. entries.gathered bit n holds w low (omega arith);
-      spared = λ w h. entries.spared w (⊎_elim (λ q. inl q) (λ q. inr (omega arith)) h);
-      by_index_2 = λ w h. (more_parts d).rest w h ∙ get_or-set_other a.parts.now 0 w 0 0 (λ q. omega (arith, pow_pos (length a.bits.now)));
+    let r = c.loop-four.invariant.2 in record {
+      by_index = λ bit n holds w low high. r.gathered bit n holds w low (omega (arith, c.loop-four-test.false, c.div_ceil-four-end.ensures));
+      spared = λ w h. r.spared w (⊎_elim (λ q. inl q) (λ q. inr (omega (arith, c.loop-four-test.false, c.div_ceil-four-end.ensures))) h);
+      by_index_2 = λ w h. c.loop-four.invariant.1.rest w h ∙ get_or-set_other a.parts.now 0 w 0 0 (λ q. omega (arith, pow_pos (length a.bits.now)));
     }

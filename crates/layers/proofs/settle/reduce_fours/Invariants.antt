@@ -1,10 +1,7 @@
 -- `settle::reduce_fours` meets its contract: four after four.
-use Prim.Native.Nat.{◌-◌}
+use Prim.Native.Nat.{◌*◌}
 use Rattle.layers.proofs.InFours.{FoursTo}
 use Rattle.layers.proofs.settle.reduce_fours.Given as goal
 
-abbrev pub invariant-loop-at : goal.invariant-loop-at
-invariant-loop-at l = FoursTo l.at l.initial.bins l.bins
-
-abbrev pub decreases-loop-at : goal.decreases-loop-at
-decreases-loop-at l = l.at-end - l.at
+abbrev pub invariant-loop-four : goal.invariant-loop-four
+invariant-loop-four l = FoursTo (4 * l.four) l.initial.bins l.bins
