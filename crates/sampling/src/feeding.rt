@@ -79,16 +79,12 @@ fn unfinished_on(head: Head, board: usize) -> usize
     ensures { result ≡ pending head board }
 {
     let lengths = head.lengths;
-    if board == 0 {
-        return lengths[0];
+    match board {
+        0 => lengths[0],
+        1 => lengths[1],
+        2 => lengths[2],
+        _ => lengths[3],
     }
-    if board == 1 {
-        return lengths[1];
-    }
-    if board == 2 {
-        return lengths[2];
-    }
-    lengths[3]
 }
 
 // The numbers after a feed to the board.

@@ -103,17 +103,7 @@ fn each_short(sampler: Head) -> bool
     ensures { result ≡ each_short sampler }
 {
     let size = sampler.block_size / 8;
-    let lengths = sampler.lengths;
-    if lengths[0] >= size {
-        return false;
-    }
-    if lengths[1] >= size {
-        return false;
-    }
-    if lengths[2] >= size {
-        return false;
-    }
-    lengths[3] < size
+    sampler.lengths.iter().all(|left| *left < size)
 }
 
 // How many blocks the words can hold at a valid block size.
