@@ -58,9 +58,9 @@ same_one (suc (suc x)) h = absurd (omega arith)
 
 -- ---- the lanes of a row
 
--- what `&words[at..at + m]` lends
+-- m words from place `at` on
 abbrev pub part_at : List ℕ → ℕ → ℕ → List ℕ
-part_at words at m = take (at + m - at) (drop at words)
+part_at words at m = take m (drop at words)
 
 module _ (words : List ℕ) (S start b at m : ℕ) (here : at ≡ b * S + start) where
   -- as far as the chunk goes the row's lanes are the stored bits
@@ -69,10 +69,9 @@ module _ (words : List ℕ) (S start b at m : ℕ) (here : at ≡ b * S + start)
   row_lane e h =
       let q : (64 * start + e) / 64 ≡ start + e / 64 = omega arith in
       let r : (64 * start + e) % 64 ≡ e % 64 = omega arith in
-      let t : e / 64 < at + m - at = omega arith in
       rw (q, r)
       (ap (λ (x : ℕ). bit_at x (e % 64))
-      (get_or-take (at + m - at) (drop at words) (e / 64) 0 t ∙ get_or-drop at words (e / 64) 0
+      (get_or-take m (drop at words) (e / 64) 0 h ∙ get_or-drop at words (e / 64) 0
       ∙ ap (λ (k : ℕ). get_or words (k + e / 64) 0) here ∙ ap (λ (k : ℕ). get_or words k 0) (add_assoc (b * S) start (e / 64))))
 
   -- the row ANDed in, flipped where y is 0

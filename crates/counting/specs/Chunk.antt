@@ -1,5 +1,5 @@
 -- The chunks in which a stretch is counted.
-use Rattle.std.specs.Prelude.{ℕ, ◌+◌, ◌-◌, ◌*◌, ◌≤◌, ◌<◌, min, List, Bool, leb, length}
+use Rattle.std.specs.Prelude.{ℕ, ◌+◌, ◌-◌, ◌*◌, ◌/◌, ◌≤◌, ◌<◌, min, List, Bool, leb, length, take, drop}
 use Rattle.counting.specs.Sample.{onward}
 use Rattle.counting.specs.Words.{stored_bit}
 use Rattle.counting.specs.declared.stretch.Stretch.{Stretch}
@@ -17,6 +17,10 @@ chunk_bit c ws = onward (64 * c.start + c.skip) (stored_bit c.stride ws)
 
 abbrev pub chunk_blocks : Chunk → ℕ
 chunk_blocks c = c.lanes - c.skip
+
+-- the words of bit b's row that have its lanes
+abbrev pub row_part : Chunk → List ℕ → ℕ → List ℕ
+row_part c ws b = take ((c.lanes + 63) / 64) (drop (b * c.stride + c.start) ws)
 
 -- n lanes from word `start` on lie in rows of S words, their blocks fit a count, and 512 words have as many
 abbrev pub LanesIn : ℕ → ℕ → ℕ → Type 0

@@ -3,7 +3,7 @@
 ghost use Rattle.std.specs.Prelude.{◌≡◌, [], ◌∷◌, ◌++◌, ℕ, ◌+◌, ◌*◌, ◌/◌, ◌^◌, ◌≤◌, ◌<◌, length, get_or, replicate};
 ghost use Rattle.std.specs.Int.Bits.{bit_and};
 ghost use Rattle.counting.specs.Sample.{onward, all_set, counts_of};
-ghost use Rattle.counting.specs.Chunk.{LanesIn, ChunkIn, MarkRoom, chunk_at, chunk_bit, chunk_blocks};
+ghost use Rattle.counting.specs.Chunk.{LanesIn, ChunkIn, MarkRoom, chunk_at, chunk_bit, chunk_blocks, row_part};
 ghost use Rattle.counting.specs.Stretch.{Within, span, stretch_bit};
 ghost use Rattle.counting.specs.Tally.{lane_of, word_at, word_with};
 ghost use Rattle.counting.specs.Words.{stored_bit};
@@ -122,18 +122,23 @@ fn and_rows(acc: &mut [u64], bits: &[u32], words: &[u64], chunk: Chunk)
     requires chunk_in { ChunkIn chunk × MarkRoom chunk acc.old }
     ensures { Marks (lane_of (word_at acc.old)) acc.new (onward (64 * chunk.start) (stored_bit chunk.stride words.now)) bits.now chunk.lanes }
 {
-    let stride = chunk.stride;
-    let start = chunk.start;
-    let n = chunk.lanes;
-    let m = (n + 63) / 64;
     for i in (0..bits.len()).step_by(2) {
         let j = with_next(i, bits.len());
-        let at = bits[i] as usize * stride + start;
-        let end = at + m;
-        let other = bits[j] as usize * stride + start;
-        let other_end = other + m;
-        and_two(acc, &words[at..end], &words[other..other_end]);
+        let row = row_part(words, bits[i] as usize, chunk);
+        let other = row_part(words, bits[j] as usize, chunk);
+        and_two(acc, row, other);
     }
+}
+
+// The words of a bit's row that have the chunk's lanes.
+fn row_part(words: &[u64], bit: usize, chunk: Chunk) -> &[u64]
+    requires lanes_in { LanesIn chunk.stride chunk.start chunk.lanes }
+    requires row_in { bit * chunk.stride + chunk.stride ≤ length words.now }
+    ensures value { result.now ≡ row_part chunk words.now bit }
+    ensures len { length result.now ≡ (chunk.lanes + 63) / 64 }
+{
+    let at = bit * chunk.stride + chunk.start;
+    &words[at..at + chunk.lanes.div_ceil(64)]
 }
 
 // The place after i of `len`; where i is the last, i.
@@ -161,14 +166,9 @@ fn add_each(acc: &[u64], next: usize, words: &[u64], chunk: Chunk, counts: &mut 
     requires count_room { CountRoom chunk.lanes counts.old }
     ensures { (j : ℕ) → j < length counts.old → get_or counts.new j 0 ≡ get_or counts.old j 0 + marked_in (lane_of (word_at acc.now)) (onward (64 * chunk.start) (stored_bit chunk.stride words.now)) ((next + j) ∷ []) chunk.lanes 1 }
 {
-    let stride = chunk.stride;
-    let start = chunk.start;
-    let n = chunk.lanes;
-    let m = (n + 63) / 64;
     for j in 0..counts.len() {
-        let at = (next + j) * stride + start;
-        let end = at + m;
-        let more = count_with(acc, &words[at..end], 0, n);
+        let row = row_part(words, next + j, chunk);
+        let more = count_with(acc, row, 0, chunk.lanes);
         counts[j] = counts[j] + more;
     }
 }
@@ -183,17 +183,16 @@ fn add_bins(acc: &[u64], words: &[u64], chunk: Chunk, bits: &[u32], bins: &mut [
     ensures { (v : ℕ) → v < length bins.old → get_or bins.new v 0 ≡ get_or bins.old v 0 + marked_in (lane_of (word_at acc.now)) (onward (64 * chunk.start) (stored_bit chunk.stride words.now)) bits.now chunk.lanes v }
 {
     let last = bits.len() - 1;
-    let at = bits[last] as usize * chunk.stride + chunk.start;
-    let end = at + (chunk.lanes + 63) / 64;
     if last < 2 {
         add_few(acc, words, chunk, bits, bins);
         return;
     }
+    let row = row_part(words, bits[last] as usize, chunk);
     let half = bins.len() / 2;
     let mut part = all_marked::<512>();
-    and_to(&mut part, acc, &words[at..end], 0);
+    and_to(&mut part, acc, row, 0);
     add_bins(&part, words, chunk, &bits[..last], &mut bins[half..]);
-    and_to(&mut part, acc, &words[at..end], u64::MAX);
+    and_to(&mut part, acc, row, u64::MAX);
     add_bins(&part, words, chunk, &bits[..last], &mut bins[..half]);
 }
 
@@ -205,17 +204,13 @@ fn add_few(acc: &[u64], words: &[u64], chunk: Chunk, bits: &[u32], bins: &mut [u
     requires count_room { CountRoom chunk.lanes bins.old }
     ensures { (v : ℕ) → v < length bins.old → get_or bins.new v 0 ≡ get_or bins.old v 0 + marked_in (lane_of (word_at acc.now)) (onward (64 * chunk.start) (stored_bit chunk.stride words.now)) bits.now chunk.lanes v }
 {
-    let n = chunk.lanes;
-    let m = (n + 63) / 64;
-    let low = bits[0] as usize * chunk.stride + chunk.start;
-    let low_end = low + m;
+    let low = row_part(words, bits[0] as usize, chunk);
     if bits.len() == 1 {
-        add_two(acc, &words[low..low_end], n, bins);
+        add_two(acc, low, chunk.lanes, bins);
         return;
     }
-    let high = bits[1] as usize * chunk.stride + chunk.start;
-    let high_end = high + m;
-    add_four(acc, &words[high..high_end], &words[low..low_end], n, bins);
+    let high = row_part(words, bits[1] as usize, chunk);
+    add_four(acc, high, low, chunk.lanes, bins);
 }
 
 // The two bins of one bit.

@@ -1,13 +1,14 @@
 -- `rows::add_bins` meets its contract. The measure is the number of bits.
-use mathlib.Core.Path.{◌≡◌, refl, ap, sym, ◌∙◌}
-use lib.ListN.{length, get_or, take, length-take, length-drop}
+use mathlib.Core.List.{List}
+use mathlib.Core.Path.{◌≡◌, refl, ap, sym, subst, ◌∙◌}
+use lib.ListN.{length, get_or, take}
 use lib.Seq.{length-take-le, length_front}
 use borrow.Rule.Slice.PartMut.{put_mid, same_len_mid}
-use Rattle.counting.specs.Tally.{word_at}
-use Rattle.counting.proofs.Marks.{part_at}
+use Rattle.counting.specs.Chunk.{row_part}
+use Rattle.counting.specs.Tally.{word_at, word_with}
 use Rattle.counting.proofs.Halves.{half_size, upper_size, lower_size, rows_init, room_upper, room_lower, halves}
 use native.Mathlib.Omega.{arith}
-use Prim.Native.Nat.{ℕ, suc, ◌+◌, ◌-◌, ◌*◌, ◌/◌, ◌^◌, ◌≤◌}
+use Prim.Native.Nat.{ℕ, suc, ◌+◌, ◌-◌, ◌*◌, ◌/◌, ◌^◌, ◌≤◌, ◌<◌}
 use Rattle.counting.proofs.rows.+add_bins.Goals.{Start}
 use Rattle.counting.proofs.rows.+add_bins.Goals as goal
 
@@ -28,43 +29,8 @@ init_size t s = length-take-le (length s.args.bits.now - 1) s.args.bits.now (ome
 init_power : (t : ℕ) (s : Start t) → length s.args.bins.now / 2 ≡ 2 ^ length (take (length s.args.bits.now - 1) s.args.bits.now)
 init_power t s = (sized t s).1 ∙ ap (λ (k : ℕ). 2 ^ k) (sym (init_size t s))
 
--- as far as the chunk goes
-abbrev first : (t : ℕ) → Start t → ℕ
-first t s = get_or s.args.bits.now (length s.args.bits.now - 1) 0 * s.args.chunk.stride + s.args.chunk.start
-
-part_size : (t : ℕ) (s : Start t) → length (part_at s.args.words.now (first t s) ((s.args.chunk.lanes + 63) / 64)) ≡ (s.args.chunk.lanes + 63) / 64
-part_size t s = simp (length-take, length-drop) (omega (arith, row t s, s.requires.lanes_in))
-
-pub overflow_sub-last : goal.overflow_sub-last
-overflow_sub-last t c =
-    omega (arith, c.requires.in_bounds, c.requires.lanes_in, row t (goal.at.overflow_sub-last t c).Start, c.well_formed)
-
-pub offset_bounds-bits-last : goal.offset_bounds-bits-last
-offset_bounds-bits-last t c =
-    omega (arith, c.requires.in_bounds, c.requires.lanes_in, row t (goal.at.offset_bounds-bits-last t c).Start, c.well_formed)
-
-pub bounds-bits-last : goal.bounds-bits-last
-bounds-bits-last t c =
-    omega (arith, c.requires.in_bounds, c.requires.lanes_in, row t (goal.at.bounds-bits-last t c).Start, c.well_formed)
-
-pub overflow_cast-at : goal.overflow_cast-at
-overflow_cast-at t c = omega (arith, c.shared_slice_known-4-1.given (length c.args.bits.now - 1))
-
-pub overflow_mul-at : goal.overflow_mul-at
-overflow_mul-at t c =
-    omega (arith, c.requires.in_bounds, c.requires.lanes_in, row t (goal.at.overflow_mul-at t c).Start, c.well_formed)
-
-pub overflow_add-at : goal.overflow_add-at
-overflow_add-at t c =
-    omega (arith, c.requires.in_bounds, c.requires.lanes_in, row t (goal.at.overflow_add-at t c).Start, c.well_formed)
-
-pub overflow_add-end : goal.overflow_add-end
-overflow_add-end t c =
-    omega (arith, c.requires.in_bounds, c.requires.lanes_in, row t (goal.at.overflow_add-end t c).Start, c.well_formed)
-
-pub overflow_add-end-2 : goal.overflow_add-end-2
-overflow_add-end-2 t c =
-    omega (arith, c.requires.in_bounds, c.requires.lanes_in, row t (goal.at.overflow_add-end-2 t c).Start, c.well_formed)
+pub row_part-row-requires : goal.row_part-row-requires
+row_part-row-requires t c = record { lanes_in = c.requires.lanes_in.0; row_in = row t (goal.at.row_part-row-requires t c).Start }
 
 pub add_few-requires : goal.add_few-requires
 add_few-requires t c =
@@ -78,18 +44,8 @@ add_few-requires t c =
 pub returns-then-last-lt2 : goal.returns-then-last-lt2
 returns-then-last-lt2 t c = c.add_few.ensures
 
-pub offset_bounds-words-at : goal.offset_bounds-words-at
-offset_bounds-words-at t c =
-    omega (arith, c.requires.in_bounds, c.requires.lanes_in, row t (goal.at.offset_bounds-words-at t c).Start, c.well_formed)
-
-pub slice_bounds-and_to-end-2 : goal.slice_bounds-and_to-end-2
-slice_bounds-and_to-end-2 t c =
-    omega (arith, c.requires.in_bounds, c.requires.lanes_in, row t (goal.at.slice_bounds-and_to-end-2 t c).Start, c.well_formed)
-
 pub and_to-requires : goal.and_to-requires
-and_to-requires t c =
-    let long = part_size t (goal.at.and_to-requires t c).Start in
-    (omega (arith, c.requires.in_bounds, c.requires.lanes_in, row t (goal.at.and_to-requires t c).Start, c.well_formed), omega (arith, c.requires.in_bounds, c.requires.lanes_in, row t (goal.at.and_to-requires t c).Start, c.well_formed))
+and_to-requires t c = (omega (arith, c.requires.lanes_in, c.row_part-row.ensures.len), omega (arith, c.requires.lanes_in, c.row_part-row.ensures.len, c.all_marked-part.ensures.value))
 
 pub slice_bounds-add_bins-end-2 : goal.slice_bounds-add_bins-end-2
 slice_bounds-add_bins-end-2 t c = sym (init_size t (goal.at.slice_bounds-add_bins-end-2 t c).Start)
@@ -112,18 +68,8 @@ add_bins-requires t c =
       ),
     )
 
-pub offset_bounds-words-at-2 : goal.offset_bounds-words-at-2
-offset_bounds-words-at-2 t c =
-    omega (arith, c.requires.in_bounds, c.requires.lanes_in, row t (goal.at.offset_bounds-words-at-2 t c).Start, c.well_formed)
-
-pub slice_bounds-and_to-end-4 : goal.slice_bounds-and_to-end-4
-slice_bounds-and_to-end-4 t c =
-    omega (arith, c.requires.in_bounds, c.requires.lanes_in, row t (goal.at.slice_bounds-and_to-end-4 t c).Start, c.well_formed)
-
 pub and_to-requires-2 : goal.and_to-requires-2
-and_to-requires-2 t c =
-    let long = part_size t (goal.at.and_to-requires-2 t c).Start in
-    (omega (arith, c.requires.in_bounds, c.requires.lanes_in, row t (goal.at.and_to-requires-2 t c).Start, c.well_formed), omega (arith, c.requires.in_bounds, c.requires.lanes_in, row t (goal.at.and_to-requires-2 t c).Start, c.well_formed, c.and_to.auto.to, c.all_marked-part.ensures.value))
+and_to-requires-2 t c = (omega (arith, c.requires.lanes_in, c.row_part-row.ensures.len), omega (arith, c.requires.lanes_in, c.row_part-row.ensures.len, c.and_to.auto.to, c.all_marked-part.ensures.value))
 
 pub slice_bounds-add_bins-end-5 : goal.slice_bounds-add_bins-end-5
 slice_bounds-add_bins-end-5 t c = sym (init_size t (goal.at.slice_bounds-add_bins-end-5 t c).Start)
@@ -167,7 +113,11 @@ returns t c =
     let lower = c.add_bins-2 in
     let marks = c.and_to in
     let marks' = c.and_to-2 in
-    halves a.words.now a.chunk.stride a.chunk.start a.chunk.lanes a.bits.now (length a.bits.now - 1) (first t (goal.at.returns t c).Start) (sized t (goal.at.returns t c).Start).0 refl (word_at a.acc.now)
+    let row_is = c.row_part-row.ensures.value in
+    let parted : (flip : ℕ) (to : List ℕ) → ((u : ℕ) → u < length c.row_part-row.result.now → get_or to u 0 ≡ word_with (word_at a.acc.now) c.row_part-row.result.now flip u)
+    → (u : ℕ) → u < length (row_part a.chunk a.words.now (get_or a.bits.now (length a.bits.now - 1) 0)) → get_or to u 0 ≡ word_with (word_at a.acc.now) (row_part a.chunk a.words.now (get_or a.bits.now (length a.bits.now - 1) 0)) flip u =
+    λ flip to p. subst (λ (row : List ℕ). (u : ℕ) → u < length row → get_or to u 0 ≡ word_with (word_at a.acc.now) row flip u) row_is p in
+    halves a.words.now a.chunk.stride a.chunk.start a.chunk.lanes a.bits.now (length a.bits.now - 1) _ (sized t (goal.at.returns t c).Start).0 refl (word_at a.acc.now)
     a.bins.now upper.new.bins lower.new.bins (word_at marks.new.to) (word_at marks'.new.to) (length a.bins.now / 2) (sized t (goal.at.returns t c).Start).1 (sized t (goal.at.returns t c).Start).2
     (omega (arith, row t (goal.at.returns t c).Start, c.requires.lanes_in))
-    upper.auto.bins lower.auto.bins (λ u l. omega (arith, marks.ensures u l)) (λ u l. omega (arith, marks'.ensures u l)) upper.ensures lower.ensures
+    upper.auto.bins lower.auto.bins (parted 0 marks.new.to marks.ensures) (parted 18446744073709551615 marks'.new.to marks'.ensures) upper.ensures lower.ensures

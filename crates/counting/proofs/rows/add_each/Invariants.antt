@@ -1,5 +1,5 @@
 -- `rows::add_each` meets its contract: the counts passed have grown.
-use Prim.Native.Nat.{◌+◌, ◌*◌, ◌≤◌, ◌-◌}
+use Prim.Native.Nat.{◌+◌, ◌*◌}
 use mathlib.Core.Path.{◌≡◌}
 use mathlib.Core.List.{[], ◌∷◌}
 use lib.ListN.{length, get_or}
@@ -12,8 +12,5 @@ use Rattle.counting.proofs.rows.add_each.Given as goal
 
 abbrev pub invariant-loop-j : goal.invariant-loop-j
 invariant-loop-j l =
-    (l.j ≤ length l.initial.counts) × (length l.counts ≡ length l.initial.counts)
-    × Stored (λ u. get_or l.initial.counts u 0 + marked_in (lane_of (word_at l.acc)) (onward (64 * l.start) (stored_bit l.stride l.words)) ((l.next + u) ∷ []) l.n 1) l.initial.counts l.j l.counts
-
-abbrev pub decreases-loop-j : goal.decreases-loop-j
-decreases-loop-j l = length l.initial.counts - l.j
+    (length l.counts ≡ length l.initial.counts)
+    × Stored (λ u. get_or l.initial.counts u 0 + marked_in (lane_of (word_at l.acc)) (onward (64 * l.chunk.start) (stored_bit l.chunk.stride l.words)) ((l.next + u) ∷ []) l.chunk.lanes 1) l.initial.counts l.j l.counts

@@ -10,7 +10,7 @@ use Rattle.counting.proofs.rows.and_rows.Given as goal
 
 abbrev pub invariant-loop-i : goal.invariant-loop-i
 invariant-loop-i l =
-    (length l.acc ≡ length l.initial.acc) × Marks (lane_of (word_at l.initial.acc)) l.acc (onward (64 * l.start) (stored_bit l.stride l.words)) (take l.i l.bits) l.n
+    (length l.acc ≡ length l.initial.acc) × Marks (lane_of (word_at l.initial.acc)) l.acc (onward (64 * l.chunk.start) (stored_bit l.chunk.stride l.words)) (take l.i l.bits) l.chunk.lanes
 
 abbrev pub decreases-loop-i : goal.decreases-loop-i
 decreases-loop-i l = l.i-end - l.i
