@@ -6,8 +6,9 @@ ghost use Rattle.counting.specs.Sample.{list_of};
 ghost use Rattle.sampling.specs.Earlier.{earlier_refusal};
 ghost use Rattle.sampling.specs.Carrying.{BlockIn, clear_bit, clear_bits, stored_byte, as_carried, carried_of, carried_words};
 
-use crate::sampler::{Head, Sampler, capacity_bytes, no_bytes};
+use crate::sampler::{Head, Sampler, capacity_bytes};
 use counting::block::{place_in, valid_block_size};
+use counting::buffer::filled;
 use counting::refusal::Refusal;
 
 // A sampler of the earlier rule: the block size in bits, how many words are lent, the bytes taken so far (T), and whether the low bit of a byte comes first.
@@ -29,16 +30,13 @@ pub fn carry_over(earlier: Earlier, words: &mut [u64]) -> Result<Sampler, Refusa
     let block_size = earlier.block_size;
     let blocks = earlier.taken / (block_size / 8);
     let left = earlier.taken % (block_size / 8);
-    let stride = words.len() / block_size;
-    let mut unfinished = no_bytes();
-    read_bytes(
-        words,
-        stride,
-        blocks,
-        earlier.low_first,
-        &mut unfinished[..left],
-    );
-    clear_bits(words, stride, blocks, 8 * left);
+    let lane = Lane {
+        stride: words.len() / block_size,
+        block: blocks,
+    };
+    let mut unfinished = filled(0);
+    lane.read(words, earlier.low_first, &mut unfinished[..left]);
+    lane.clear(words, 8 * left);
     Ok(Sampler {
         head: Head {
             block_size,
@@ -68,43 +66,52 @@ fn earlier_refusal(earlier: Earlier, words: usize) -> Result<(), Refusal>
     Ok(())
 }
 
-// The first bytes of block e, as many as there is room for, as the words have them.
-fn read_bytes(words: &[u64], stride: usize, e: usize, low_first: bool, to: &mut [u8])
-    requires { BlockIn stride (length words.now) e (8 * length to.old) }
-    ensures { to.new ≡ list_of (length to.old) (stored_byte low_first stride words.now e) }
-{
-    for (j, byte) in to.iter_mut().enumerate() {
-        *byte = stored_byte(words, stride, e, j, low_first);
+// Where a block stands in the words: how many words a row has, and the block's number.
+#[derive(Clone, Copy)]
+struct Lane {
+    stride: usize,
+    block: usize,
+}
+
+impl Lane {
+    // The first bytes of the block, as many as there is room for, as the words have them.
+    fn read(self, words: &[u64], low_first: bool, to: &mut [u8])
+        requires { BlockIn self.stride (length words.now) self.block (8 * length to.old) }
+        ensures { to.new ≡ list_of (length to.old) (stored_byte low_first self.stride words.now self.block) }
+    {
+        for (j, byte) in to.iter_mut().enumerate() {
+            *byte = self.byte(words, j, low_first);
+        }
     }
-}
 
-// Byte j of block e, as the words have it, from its highest bit down.
-fn stored_byte(words: &[u64], stride: usize, e: usize, j: usize, low_first: bool) -> u8
-    requires { BlockIn stride (length words.now) e (8 * j + 8) }
-    ensures { result ≡ stored_byte low_first stride words.now e j }
-{
-    let mut x: u8 = 0;
-    for i in (0..8).rev() {
-        x = 2 * x + stored_bit(words, stride, e, 8 * j + place_in(low_first, i));
+    // Byte j of the block, as the words have it, from its highest bit down.
+    fn byte(self, words: &[u64], j: usize, low_first: bool) -> u8
+        requires { BlockIn self.stride (length words.now) self.block (8 * j + 8) }
+        ensures { result ≡ stored_byte low_first self.stride words.now self.block j }
+    {
+        let mut x: u8 = 0;
+        for i in (0..8).rev() {
+            x = 2 * x + self.bit(words, 8 * j + place_in(low_first, i));
+        }
+        x
     }
-    x
-}
 
-// Bit b of block e, as the words have it.
-fn stored_bit(words: &[u64], stride: usize, e: usize, b: usize) -> u8
-    requires { BlockIn stride (length words.now) e (b + 1) }
-    ensures { result ≡ stored_bit stride words.now e b }
-{
-    ((words[b * stride + e / 64] >> (e % 64)) % 2) as u8
-}
+    // Bit b of the block, as the words have it.
+    fn bit(self, words: &[u64], b: usize) -> u8
+        requires { BlockIn self.stride (length words.now) self.block (b + 1) }
+        ensures { result ≡ stored_bit self.stride words.now self.block b }
+    {
+        ((words[b * self.stride + self.block / 64] >> (self.block % 64)) % 2) as u8
+    }
 
-// Clears the first m bits of block e.
-fn clear_bits(words: &mut [u64], stride: usize, e: usize, m: usize)
-    requires { BlockIn stride (length words.old) e m }
-    ensures { words.new ≡ clear_bits stride words.old e m }
-{
-    for b in 0..m {
-        clear_bit(words, b * stride + e / 64, e % 64);
+    // Clears the first m bits of the block.
+    fn clear(self, words: &mut [u64], m: usize)
+        requires { BlockIn self.stride (length words.old) self.block m }
+        ensures { words.new ≡ clear_bits self.stride words.old self.block m }
+    {
+        for b in 0..m {
+            clear_bit(words, b * self.stride + self.block / 64, self.block % 64);
+        }
     }
 }
 

@@ -11,6 +11,27 @@ pub struct Place {
     pub byte: usize,
 }
 
+impl Place {
+    // The place of the next byte; size is the bytes of a block.
+    fn next(self, size: usize) -> Place
+        requires { (self.byte < size) × (self.block < 9223372036854775808) }
+        ensures { (result.block * size + result.byte ≡ self.block * size + self.byte + 1) × (result.byte < size) }
+    {
+        let byte = self.byte + 1;
+        if byte == size {
+            Place {
+                block: self.block + 1,
+                byte: 0,
+            }
+        } else {
+            Place {
+                block: self.block,
+                byte,
+            }
+        }
+    }
+}
+
 // Puts the bytes in from a place on; size is the bytes of a block, stride the words of a row.
 // The place goes from byte to byte, so that no byte costs a division.
 pub fn put_bytes(
@@ -37,26 +58,7 @@ pub fn put_bytes(
             *x,
             low_first,
         );
-        place = next_place(place, size);
-    }
-}
-
-// The place of the next byte.
-fn next_place(place: Place, size: usize) -> Place
-    requires { (place.byte < size) × (place.block < 9223372036854775808) }
-    ensures { (result.block * size + result.byte ≡ place.block * size + place.byte + 1) × (result.byte < size) }
-{
-    let byte = place.byte + 1;
-    if byte == size {
-        Place {
-            block: place.block + 1,
-            byte: 0,
-        }
-    } else {
-        Place {
-            block: place.block,
-            byte,
-        }
+        place = place.next(size);
     }
 }
 

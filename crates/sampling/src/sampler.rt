@@ -1,10 +1,11 @@
 // The sampler, its start, and what it is refused for.
-ghost use Rattle.std.specs.Prelude.{◌≡◌, ◌*◌, ◌≤◌, ◌<◌, length, replicate};
+ghost use Rattle.std.specs.Prelude.{◌≡◌, ◌*◌, ◌≤◌, ◌<◌, length};
 ghost use Rattle.counting.specs.Recording.{capacity, capacity_bytes};
 ghost use Rattle.counting.specs.Refusal.{refusal_of};
 ghost use Rattle.sampling.specs.Sampler.{no_sampler, as_started, started_of, started_words, blocks_of, each_short, sampler_refusal};
 
 use counting::block::valid_block_size;
+use counting::buffer::filled;
 use counting::refusal::Refusal;
 
 // All of a sampler but its unfinished bytes: the block size in bits, how many words are lent, the blocks completed so far (n), whether the low bit of a byte
@@ -34,7 +35,7 @@ pub fn start(block_size: usize, low_first: bool, words: &mut [u64]) -> Result<Sa
         return Err(Refusal::BlockSize);
     }
     words.fill(0);
-    let unfinished = no_bytes();
+    let unfinished = filled(0);
     Ok(Sampler {
         head: Head {
             block_size,
@@ -51,7 +52,7 @@ pub fn start(block_size: usize, low_first: bool, words: &mut [u64]) -> Result<Sa
 pub fn no_sampler() -> Sampler
     ensures { result ≡ no_sampler }
 {
-    let unfinished = no_bytes();
+    let unfinished = filled(0);
     Sampler {
         head: Head {
             block_size: 0,
@@ -62,13 +63,6 @@ pub fn no_sampler() -> Sampler
         },
         unfinished,
     }
-}
-
-// No unfinished byte.
-pub fn no_bytes() -> [u8; 2048]
-    ensures { result ≡ replicate 2048 0 }
-{
-    [0; 2048]
 }
 
 // n: the blocks that the sampler has completed.

@@ -15,7 +15,7 @@ use Rattle.sampling.specs.Earlier.{earlier_refusal}
 use Rattle.sampling.specs.Sampler.{no_sampler}
 use Rattle.sampling.proofs.Lifting.{Lifts, lifts}
 use Rattle.sampling.proofs.Refused.{refused, passed_on}
-use Rattle.sampling.proofs.carrying.carry_over.Goals.{After-no_bytes-unfinished, In_ok-earlier_refusal}
+use Rattle.sampling.proofs.carrying.carry_over.Goals.{After-filled-unfinished, In_ok-earlier_refusal}
 use Rattle.sampling.proofs.carrying.carry_over.Goals as goal
 
 -- ---- past the refusal
@@ -26,18 +26,18 @@ none e = sym e.in_ok-earlier_refusal.ensures
 has : (e : In_ok-earlier_refusal) → Lifts e.args.earlier (length e.args.words.now)
 has e = lifts e.args.earlier (length e.args.words.now) (none e)
 
-abbrev past : After-no_bytes-unfinished → In_ok-earlier_refusal
+abbrev past : After-filled-unfinished → In_ok-earlier_refusal
 past d = (goal.at.slice_bounds-unfinished-end d).In_ok-earlier_refusal
 
 -- there is room for the bytes
-long : (d : After-no_bytes-unfinished) → length d.no_bytes-unfinished.result ≡ 2048
-long d = ap length d.no_bytes-unfinished.ensures ∙ length-replicate {A = ℕ} 2048 0
+long : (d : After-filled-unfinished) → length d.filled-unfinished.result ≡ 2048
+long d = ap length d.filled-unfinished.ensures ∙ length-replicate {A = ℕ} 2048 0
 
-room : (d : After-no_bytes-unfinished) → left_of d.args.earlier ≤ length d.no_bytes-unfinished.result
+room : (d : After-filled-unfinished) → left_of d.args.earlier ≤ length d.filled-unfinished.result
 room d = let h = has (past d) in omega (arith, long d, h.few, h.at_most)
 
-part_long : (d : After-no_bytes-unfinished) → length (take (left_of d.args.earlier) d.no_bytes-unfinished.result) ≡ left_of d.args.earlier
-part_long d = length-take-le (left_of d.args.earlier) d.no_bytes-unfinished.result (room d)
+part_long : (d : After-filled-unfinished) → length (take (left_of d.args.earlier) d.filled-unfinished.result) ≡ left_of d.args.earlier
+part_long d = length-take-le (left_of d.args.earlier) d.filled-unfinished.result (room d)
 
 pub returns-in_err-earlier_refusal : goal.returns-in_err-earlier_refusal
 unfolding carried_of carried_words
@@ -56,39 +56,39 @@ nonzero_div-blocks-2 c = omega (arith, (has (goal.at.nonzero_div-blocks-2 c).In_
 pub nonzero_rem-left : goal.nonzero_rem-left
 nonzero_rem-left c = omega (arith, (has (goal.at.nonzero_rem-left c).In_ok-earlier_refusal).size)
 
-pub nonzero_div-stride : goal.nonzero_div-stride
-nonzero_div-stride c = omega (arith, (has (goal.at.nonzero_div-stride c).In_ok-earlier_refusal).size)
+pub nonzero_div-lane : goal.nonzero_div-lane
+nonzero_div-lane c = omega (arith, (has (goal.at.nonzero_div-lane c).In_ok-earlier_refusal).size)
 
 pub slice_bounds-unfinished-end : goal.slice_bounds-unfinished-end
 slice_bounds-unfinished-end c = room c
 
-pub slice_bounds-read_bytes-end : goal.slice_bounds-read_bytes-end
-slice_bounds-read_bytes-end c = sym (part_long (goal.at.slice_bounds-read_bytes-end c).After-no_bytes-unfinished)
+pub slice_bounds-read-end : goal.slice_bounds-read-end
+slice_bounds-read-end c = sym (part_long (goal.at.slice_bounds-read-end c).After-filled-unfinished)
 
-pub read_bytes-requires : goal.read_bytes-requires
-read_bytes-requires c =
-    let e = past (goal.at.read_bytes-requires c).After-no_bytes-unfinished in
+pub read-requires : goal.read-requires
+read-requires c =
+    let e = past (goal.at.read-requires c).After-filled-unfinished in
     let a = c.args in
-    rw (part_long (goal.at.read_bytes-requires c).After-no_bytes-unfinished) (has e).inside
+    rw (part_long (goal.at.read-requires c).After-filled-unfinished) (has e).inside
 
 pub overflow_mul-left : goal.overflow_mul-left
-overflow_mul-left c = let h = has (past (goal.at.overflow_mul-left c).After-no_bytes-unfinished) in omega (arith, h.few, h.at_most)
+overflow_mul-left c = let h = has (past (goal.at.overflow_mul-left c).After-filled-unfinished) in omega (arith, h.few, h.at_most)
 
-pub clear_bits-requires : goal.clear_bits-requires
-clear_bits-requires c = (has (past (goal.at.clear_bits-requires c).After-no_bytes-unfinished)).inside
+pub clear-requires : goal.clear-requires
+clear-requires c = (has (past (goal.at.clear-requires c).After-filled-unfinished)).inside
 
 pub returns : goal.returns
 unfolding carried_of carried_words left_bytes
 returns c =
-    let e = past (goal.at.returns c).After-no_bytes-unfinished in
+    let e = past (goal.at.returns c).After-filled-unfinished in
     let a = c.args in
     let s = a.earlier in
     let left = left_of s in
     let none_yet : List ℕ = replicate 2048 0 in
     let f = stored_byte s.low_first (stride s.block_size (length a.words.now)) a.words.now (whole_of s) in
-    let read : c.read_bytes.new.to ≡ list_of left f = c.read_bytes.ensures ∙ ap (λ (m : ℕ). list_of m f) (part_long (goal.at.returns c).After-no_bytes-unfinished) in
-    let bytes : c.read_bytes.new.to ++ drop left c.no_bytes-unfinished.result ≡ put none_yet 0 (list_of left f) =
-    (λ i. read i ++ drop left (c.no_bytes-unfinished.ensures i))
+    let read : c.read.new.to ≡ list_of left f = c.read.ensures ∙ ap (λ (m : ℕ). list_of m f) (part_long (goal.at.returns c).After-filled-unfinished) in
+    let bytes : c.read.new.to ++ drop left c.filled-unfinished.result ≡ put none_yet 0 (list_of left f) =
+    (λ i. read i ++ drop left (c.filled-unfinished.ensures i))
     ∙ sym (put_first none_yet (list_of left f) ∙ ap (λ (k : ℕ). list_of left f ++ drop k none_yet) (length_list left f)) in
     record {
       value = simp (none e) (λ i. record {
@@ -104,5 +104,5 @@ returns c =
           unfinished = bytes i;
         };
       });
-      words_after = simp (none e) c.clear_bits.ensures;
+      words_after = simp (none e) c.clear.ensures;
     }

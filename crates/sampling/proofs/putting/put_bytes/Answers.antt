@@ -46,7 +46,7 @@ loop-x-preserved c =
     let a = c.args in
     let l = (goal.at.loop-x-preserved c).At-loop-x in
     let n = c.loop-x.x-index in
-    let next = c.next_place-place.ensures in (
+    let next = c.next-place.ensures in (
       c.put_byte.ensures
           ∙ (λ i. put_bits a.low_first a.stride (c.loop-x.invariant.0 i) (8 * byte_is l i * a.stride + block_is l i / 64) (block_is l i % 64) (get_or a.bytes.now n 0) 8)
           ∙ sym (put_bytes_next a.low_first a.size a.stride a.words.now (number a.size a.from) a.bytes.now n),

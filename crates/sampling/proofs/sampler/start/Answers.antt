@@ -30,7 +30,7 @@ returns c =
             low_first = a.low_first;
             lengths = 0 ∷ 0 ∷ 0 ∷ 0 ∷ [];
           };
-          unfinished = c.no_bytes-unfinished.ensures i;
+          unfinished = c.filled-unfinished.ensures i;
         };
       });
       words_after = simp good (c.fill.ensures.after (λ y e. e));

@@ -1,4 +1,4 @@
--- `carrying::stored_byte` meets its contract: from the highest bit down, x is the number that the bits passed make.
+-- `carrying::Lane::byte` meets its contract: from the highest bit down, x is the number that the bits passed make.
 use mathlib.Core.Path.{◌≡◌, refl, sym, ap, ◌∙◌}
 use mathlib.Core.List.{List}
 use Prim.Native.Nat.{ℕ, ◌+◌, ◌-◌, ◌*◌, ◌/◌, ◌%◌, ◌≤◌, ◌<◌}
@@ -12,15 +12,15 @@ use Rattle.counting.proofs.Counts.{bin_lt, bin_drop}
 use Rattle.counting.proofs.Lanes.{bit_lt}
 use Rattle.sampling.specs.Carrying.{stored_byte}
 use Rattle.sampling.proofs.Lifting.{eight, nth}
-use Rattle.sampling.proofs.carrying.stored_byte.Goals.{At-loop-i}
-use Rattle.sampling.proofs.carrying.stored_byte.Goals as goal
+use Rattle.sampling.proofs.carrying.Lane.byte.Goals.{At-loop-i}
+use Rattle.sampling.proofs.carrying.Lane.byte.Goals as goal
 
 stored_small : (S : ℕ) (ws : List ℕ) (e b : ℕ) → stored_bit S ws e b < 2
 unfolding stored_bit
 stored_small S ws e b = bit_lt (get_or ws (b * S + e / 64) 0) (e % 64)
 
 abbrev bit : At-loop-i → ℕ → ℕ
-bit l r = let a = l.args in stored_bit a.stride a.words.now a.e (8 * a.j + place_in a.low_first r)
+bit l r = let a = l.args in stored_bit a.self.stride a.words.now a.self.block (8 * a.j + place_in a.low_first r)
 
 -- before the last bit there are at most seven
 small : (l : At-loop-i) → 0 < l.loop-i.i → l.loop-i.x < 128
@@ -29,7 +29,7 @@ small l some =
     let a = l.args in
     let few : length (drop i eight) ≤ 7 = rw (length-drop i eight) (omega arith) in
     rw l.loop-i.invariant
-    (lt_of_lt_of_le (bin_lt (bit l) (λ r. stored_small a.stride a.words.now a.e (8 * a.j + place_in a.low_first r)) (drop i eight)) (pow_mono few))
+    (lt_of_lt_of_le (bin_lt (bit l) (λ r. stored_small a.self.stride a.words.now a.self.block (8 * a.j + place_in a.low_first r)) (drop i eight)) (pow_mono few))
 
 pub loop-i-init : goal.loop-i-init
 unfolding bin_of
@@ -41,7 +41,7 @@ overflow_mul-x c = omega (arith, small (goal.at.overflow_mul-x c).At-loop-i c.lo
 pub overflow_add-x : goal.overflow_add-x
 overflow_add-x c =
     let a = c.args in
-    omega (arith, small (goal.at.overflow_add-x c).At-loop-i c.loop-i-test.true, c.stored_bit.ensures, stored_small a.stride a.words.now a.e (8 * a.j + c.place_in.result))
+    omega (arith, small (goal.at.overflow_add-x c).At-loop-i c.loop-i-test.true, c.bit.ensures, stored_small a.self.stride a.words.now a.self.block (8 * a.j + c.place_in.result))
 
 pub loop-i-preserved : goal.loop-i-preserved
 loop-i-preserved c =
@@ -52,8 +52,8 @@ loop-i-preserved c =
     let room : i ≤ length eight = omega arith in
     let more = bin_drop (bit l) eight i some room in
     let last : get_or eight (i - 1) 0 ≡ i - 1 = nth (i - 1) (omega arith) in
-    let new : c.stored_bit.result ≡ bit l (get_or eight (i - 1) 0) =
-    c.stored_bit.ensures ∙ ap (λ (p : ℕ). stored_bit a.stride a.words.now a.e (8 * a.j + p)) c.place_in.ensures.0 ∙ ap (bit l) (sym last) in
+    let new : c.bit.result ≡ bit l (get_or eight (i - 1) 0) =
+    c.bit.ensures ∙ ap (λ (p : ℕ). stored_bit a.self.stride a.words.now a.self.block (8 * a.j + p)) c.place_in.ensures.0 ∙ ap (bit l) (sym last) in
     omega (arith, more, c.loop-i.invariant, new)
 
 pub returns : goal.returns
