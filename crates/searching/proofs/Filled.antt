@@ -30,11 +30,14 @@ length_order bit n bits = order_length (counts_of bit n bits) ∙ length_counts 
 
 -- what a candidate of k bits leaves in a buffer: its counts first, and past the 2 ^ k entries what was there
 module _ (bit : ℕ → ℕ → ℕ) (n k : ℕ) (bits l l' : List ℕ) (size : length bits ≡ k) where
-  pub counts_first : l' ≡ counts_of bit n bits ++ drop (2 ^ length bits) l → take (2 ^ k) l' ≡ counts_of bit n bits
-  counts_first e = rw (← size) (ap (take (2 ^ length bits)) e ∙ replaced_first (2 ^ length bits) (counts_of bit n bits) l (length_counts bit n bits))
+  counts_size : length (counts_of bit n bits) ≡ 2 ^ k
+  counts_size = length_counts bit n bits ∙ ap (λ (m : ℕ). 2 ^ m) size
 
-  pub counts_rest : l' ≡ counts_of bit n bits ++ drop (2 ^ length bits) l → drop (2 ^ k) l' ≡ drop (2 ^ k) l
-  counts_rest e = rw (← size) (ap (drop (2 ^ length bits)) e ∙ replaced_rest (2 ^ length bits) (counts_of bit n bits) l (length_counts bit n bits))
+  pub counts_first : l' ≡ counts_of bit n bits ++ drop (2 ^ k) l → take (2 ^ k) l' ≡ counts_of bit n bits
+  counts_first e = ap (take (2 ^ k)) e ∙ replaced_first (2 ^ k) (counts_of bit n bits) l counts_size
 
-  pub order_rest : l' ≡ order_of (counts_of bit n bits) ++ drop (2 ^ length bits) l → drop (2 ^ k) l' ≡ drop (2 ^ k) l
-  order_rest e = rw (← size) (ap (drop (2 ^ length bits)) e ∙ replaced_rest (2 ^ length bits) (order_of (counts_of bit n bits)) l (length_order bit n bits))
+  pub counts_rest : l' ≡ counts_of bit n bits ++ drop (2 ^ k) l → drop (2 ^ k) l' ≡ drop (2 ^ k) l
+  counts_rest e = ap (drop (2 ^ k)) e ∙ replaced_rest (2 ^ k) (counts_of bit n bits) l counts_size
+
+  pub order_rest : l' ≡ order_of (counts_of bit n bits) ++ drop (2 ^ k) l → drop (2 ^ k) l' ≡ drop (2 ^ k) l
+  order_rest e = ap (drop (2 ^ k)) e ∙ replaced_rest (2 ^ k) (order_of (counts_of bit n bits)) l (order_length (counts_of bit n bits) ∙ counts_size)

@@ -6,5 +6,6 @@ mod direct;
 pub mod finding;
 mod layered;
 mod pass;
+mod sample;
 pub mod search;
 mod stepping;

@@ -1,45 +1,57 @@
 // One ordered pass over the k-subsets of a block.
-ghost use Rattle.std.specs.Prelude.{◌≡◌, ◌≤◌, length};
+ghost use Rattle.std.specs.Prelude.{◌≡◌};
 ghost use Rattle.counting.specs.Stretch.{span, stretch_bit};
 ghost use Rattle.ranking.specs.Ranking.{Roots};
 ghost use Rattle.subsets.specs.Subsets.{padded};
 ghost use Rattle.searching.specs.Finding.{winner_of};
-ghost use Rattle.searching.specs.Pass.{Searchable, BufferRoom, FromStore, Space, PastSame, Won};
+ghost use Rattle.searching.specs.Pass.{BufferRoom, FromStore, Space, PastSame, Won};
 
-use crate::candidate::rank_candidate;
 use crate::finding::Finding;
-use crate::stepping::{begin, step};
-use counting::stretch::{Stretch, span};
+use crate::sample::Sample;
+use counting::stretch::span;
 use ranking::ranking::fill_roots;
 use subsets::stepping::first;
+
+// What a pass goes by: the sample, the store that the bins are worked out from, which is empty where every bin is counted, and the roots for its divisions.
+#[derive(Clone, Copy)]
+pub struct Pass<'a> {
+    pub sample: Sample<'a>,
+    pub store: &'a [u32],
+    pub roots: &'a [f64],
+    ghost from_store: { FromStore (stretch_bit sample.stretch sample.words.now) (span sample.stretch) sample.stretch.block_size sample.k store.now },
+    ghost rooted: { Roots (span sample.stretch) sample.k roots.now },
+}
 
 // Finds the best k-subset; its bit order is left at high first, since rows have none. Its counts and bin order are left in the buffers, whose entries past 2 ^ k stay.
 // An empty store means that every bin is counted; else the counts of the smaller subsets stand in it. What is left in run is free.
 pub fn find(
-    words: &[u64],
-    stretch: Stretch,
-    k: usize,
+    sample: &Sample<'_>,
     store: &[u32],
     run: &mut [u32],
     bins: &mut [u32],
     order: &mut [u32],
 ) -> Finding
-    requires searchable { Searchable (length words.now) stretch k }
-    requires from_store { FromStore (stretch_bit stretch words.now) (span stretch) stretch.block_size k store.now }
-    requires space { Space stretch.block_size k store.now run.old }
-    requires buffer_room { BufferRoom k bins.old order.old }
-    ensures { Won (stretch_bit stretch words.now) (span stretch) stretch.block_size k bins.old order.old result bins.new order.new }
+    requires from_store { FromStore (stretch_bit sample.now.stretch sample.now.words.now) (span sample.now.stretch) sample.now.stretch.block_size sample.now.k store.now }
+    requires space { Space sample.now.stretch.block_size sample.now.k store.now run.old }
+    requires buffer_room { BufferRoom sample.now.k bins.old order.old }
+    ensures { Won (stretch_bit sample.now.stretch sample.now.words.now) (span sample.now.stretch) sample.now.stretch.block_size sample.now.k bins.old order.old result bins.new order.new }
 {
+    let k = sample.k;
     let mut table = [0.0; 256];
     // Worked out once for all subsets: a root for each division, as far as the table goes.
     let roots = &mut table[..1 << k.min(8)];
-    fill_roots(roots, span(stretch), k);
-    let bits = pick(words, stretch, k, store, roots, run, bins, order);
+    fill_roots(roots, span(sample.stretch), k);
+    let pass = Pass {
+        sample: *sample,
+        store,
+        roots,
+    };
+    let bits = pass.pick(run, bins, order);
     // The pass leaves the last candidate in the buffers.
-    begin(&bits[..k], words, stretch, store, run, bins, order);
-    let ranking = rank_candidate(&bits[..k], words, stretch, store, run, roots, bins, order);
+    pass.begin(&bits[..k], run, bins, order);
+    let ranking = pass.rank(&bits[..k], run, bins, order);
     Finding {
-        block_size: stretch.block_size,
+        block_size: sample.stretch.block_size,
         width: k,
         bits,
         division: ranking.division,
@@ -48,67 +60,47 @@ pub fn find(
     }
 }
 
-// The best k-subset. A block of k bits has one only, which the pass would rank twice.
-// The first 2 ^ k entries of the buffers are free, and of run all but the places in the store.
-fn pick(
-    words: &[u64],
-    stretch: Stretch,
-    k: usize,
-    store: &[u32],
-    roots: &[f64],
-    run: &mut [u32],
-    bins: &mut [u32],
-    order: &mut [u32],
-) -> [u32; 20]
-    requires searchable { Searchable (length words.now) stretch k }
-    requires from_store { FromStore (stretch_bit stretch words.now) (span stretch) stretch.block_size k store.now }
-    requires space { Space stretch.block_size k store.now run.old }
-    requires buffer_room { BufferRoom k bins.old order.old }
-    requires roots { Roots (span stretch) k roots.now }
-    ensures value { result ≡ padded (winner_of (stretch_bit stretch words.now) (span stretch) stretch.block_size k) }
-    ensures space_2 { Space stretch.block_size k store.now run.new }
-    ensures past_same { PastSame k bins.old order.old bins.new order.new }
-{
-    let block_size = stretch.block_size;
-    if k == block_size {
-        return first(k);
-    }
-    walk(words, stretch, k, store, roots, run, bins, order)
-}
-
-// The pass: a later subset takes the place of the best so far only where its z is greater.
-// The first 2 ^ k entries of the buffers, left at the last candidate, are free, and of run all but the places in the store.
-fn walk(
-    words: &[u64],
-    stretch: Stretch,
-    k: usize,
-    store: &[u32],
-    roots: &[f64],
-    run: &mut [u32],
-    bins: &mut [u32],
-    order: &mut [u32],
-) -> [u32; 20]
-    requires searchable { Searchable (length words.now) stretch k }
-    requires from_store { FromStore (stretch_bit stretch words.now) (span stretch) stretch.block_size k store.now }
-    requires space { Space stretch.block_size k store.now run.old }
-    requires buffer_room { BufferRoom k bins.old order.old }
-    requires roots { Roots (span stretch) k roots.now }
-    ensures value { result ≡ padded (winner_of (stretch_bit stretch words.now) (span stretch) stretch.block_size k) }
-    ensures space_2 { Space stretch.block_size k store.now run.new }
-    ensures past_same { PastSame k bins.old order.old bins.new order.new }
-{
-    let mut bits = first(k);
-    let mut best = bits;
-    begin(&bits[..k], words, stretch, store, run, bins, order);
-    let ranking = rank_candidate(&bits[..k], words, stretch, store, run, roots, bins, order);
-    let mut z = ranking.z;
-    while step(&mut bits, k, words, stretch, store, run, bins, order) {
-        let next = rank_candidate(&bits[..k], words, stretch, store, run, roots, bins, order);
-        let better = z < next.z;
-        if better {
-            best = bits;
-            z = next.z;
+impl Pass<'_> {
+    // The best k-subset. A block of k bits has one only, which the pass would rank twice.
+    // The first 2 ^ k entries of the buffers are free, and of run all but the places in the store.
+    fn pick(&self, run: &mut [u32], bins: &mut [u32], order: &mut [u32]) -> [u32; 20]
+        requires space { Space self.now.sample.stretch.block_size self.now.sample.k self.now.store.now run.old }
+        requires buffer_room { BufferRoom self.now.sample.k bins.old order.old }
+        ensures value { result ≡ padded (winner_of (stretch_bit self.now.sample.stretch self.now.sample.words.now) (span self.now.sample.stretch) self.now.sample.stretch.block_size self.now.sample.k) }
+        ensures space_2 { Space self.now.sample.stretch.block_size self.now.sample.k self.now.store.now run.new }
+        ensures past_same { PastSame self.now.sample.k bins.old order.old bins.new order.new }
+    {
+        let k = self.sample.k;
+        let block_size = self.sample.stretch.block_size;
+        if k == block_size {
+            return first(k);
         }
+        self.walk(run, bins, order)
     }
-    best
+
+    // The pass: a later subset takes the place of the best so far only where its z is greater.
+    // The first 2 ^ k entries of the buffers, left at the last candidate, are free, and of run all but the places in the store.
+    fn walk(&self, run: &mut [u32], bins: &mut [u32], order: &mut [u32]) -> [u32; 20]
+        requires space { Space self.now.sample.stretch.block_size self.now.sample.k self.now.store.now run.old }
+        requires buffer_room { BufferRoom self.now.sample.k bins.old order.old }
+        ensures value { result ≡ padded (winner_of (stretch_bit self.now.sample.stretch self.now.sample.words.now) (span self.now.sample.stretch) self.now.sample.stretch.block_size self.now.sample.k) }
+        ensures space_2 { Space self.now.sample.stretch.block_size self.now.sample.k self.now.store.now run.new }
+        ensures past_same { PastSame self.now.sample.k bins.old order.old bins.new order.new }
+    {
+        let k = self.sample.k;
+        let mut bits = first(k);
+        let mut best = bits;
+        self.begin(&bits[..k], run, bins, order);
+        let ranking = self.rank(&bits[..k], run, bins, order);
+        let mut z = ranking.z;
+        'pass: while self.step(&mut bits, run, bins, order) {
+            let next = self.rank(&bits[..k], run, bins, order);
+            let better = z < next.z;
+            if better {
+                best = bits;
+                z = next.z;
+            }
+        }
+        best
+    }
 }

@@ -4,16 +4,16 @@ ghost use Rattle.counting.specs.Refusal.{refusal_of};
 ghost use Rattle.counting.specs.Stretch.{span, stretch_bit};
 ghost use Rattle.layers.specs.Store.{store_suffices};
 ghost use Rattle.searching.specs.Finding.{searched_of};
-ghost use Rattle.searching.specs.Pass.{Searchable, BufferRoom, Won};
+ghost use Rattle.searching.specs.Pass.{BufferRoom, Won};
 ghost use Rattle.searching.specs.Refusal.{width_refusal, buffer_refusal, search_refusal, bottomup_refusal};
 ghost use Rattle.searching.specs.Search.{BottomupSearch, store_after};
 
 use crate::direct::brute_force_threads;
 use crate::finding::{Finding, marked};
 use crate::layered::brute_force;
+use crate::sample::Sample;
 use counting::block::bin_count;
 use counting::refusal::Refusal;
-use counting::stretch::Stretch;
 use layers::size::store_suffices;
 use sampling::sampler::{Head, sampler_refusal};
 use sampling::stretch::{stretch_of, stretch_refusal};
@@ -36,28 +36,26 @@ pub fn bottomup(
 {
     bottomup_refusal(sampler, words.len(), first, end, k, bins.len(), order.len())?;
     let stretch = stretch_of(sampler, words.len(), first, end);
-    let finding = search_stretch(words, stretch, k, store, bins, order);
+    let sample = Sample { words, stretch, k };
+    let finding = search_stretch(&sample, store, bins, order);
     Ok(marked(finding, sampler.low_first))
 }
 
 // The best k-subset of a stretch, in the way that the store allows.
 fn search_stretch(
-    words: &[u64],
-    stretch: Stretch,
-    k: usize,
+    sample: &Sample<'_>,
     store: &mut [u32],
     bins: &mut [u32],
     order: &mut [u32],
 ) -> Finding
-    requires searchable { Searchable (length words.now) stretch k }
-    requires buffer_room { BufferRoom k bins.old order.old }
-    ensures won { Won (stretch_bit stretch words.now) (span stretch) stretch.block_size k bins.old order.old result bins.new order.new }
-    ensures store_after { store.new ≡ store_after 0 (store_suffices stretch.block_size k (length store.old)) (stretch_bit stretch words.now) (span stretch) stretch.block_size k store.old }
+    requires buffer_room { BufferRoom sample.now.k bins.old order.old }
+    ensures won { Won (stretch_bit sample.now.stretch sample.now.words.now) (span sample.now.stretch) sample.now.stretch.block_size sample.now.k bins.old order.old result bins.new order.new }
+    ensures store_after { store.new ≡ store_after 0 (store_suffices sample.now.stretch.block_size sample.now.k (length store.old)) (stretch_bit sample.now.stretch sample.now.words.now) (span sample.now.stretch) sample.now.stretch.block_size sample.now.k store.old }
 {
-    if store_suffices(stretch.block_size, k, store.len()) {
-        return brute_force(words, stretch, k, store, bins, order);
+    if store_suffices(sample.stretch.block_size, sample.k, store.len()) {
+        return brute_force(sample, store, bins, order);
     }
-    brute_force_threads(words, stretch, k, bins, order)
+    brute_force_threads(sample, bins, order)
 }
 
 // Refusals 4, 18, 2, 3, 7 where no search can be made.

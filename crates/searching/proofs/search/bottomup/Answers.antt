@@ -36,15 +36,17 @@ returns-in_err-bottomup_refusal c =
 pub stretch_of-stretch-requires : goal.stretch_of-stretch-requires
 stretch_of-stretch-requires c = omega (arith, valid_facts _ (free c).search.usable.valid)
 
-pub search_stretch-finding-requires : goal.search_stretch-finding-requires
-search_stretch-finding-requires c =
+pub invariant_of-sample : goal.invariant_of-sample
+invariant_of-sample c =
     let x = c.stretch_of-stretch in
     let a = c.args in
+    let f = free (goal.at.invariant_of-sample c).In_ok-bottomup_refusal in
+    record { searchable = searchable a.sampler (length a.words.now) a.first a.end a.k x.result x.ensures f.search }
+
+pub search_stretch-finding-requires : goal.search_stretch-finding-requires
+search_stretch-finding-requires c =
     let f = free (goal.at.search_stretch-finding-requires c).In_ok-bottomup_refusal in
-    record {
-      searchable = searchable a.sampler (length a.words.now) a.first a.end a.k x.result x.ensures f.search;
-      buffer_room = f.room;
-    }
+    record { buffer_room = f.room }
 
 pub returns : goal.returns
 returns c =
