@@ -3,15 +3,12 @@ pub mod Tokens
 pub mod Numbers
 pub mod Objects
 pub mod Following
-pub mod Getting
 pub mod Stepping
 pub mod Turning
 pub mod Storing
-pub mod Scoring
 pub mod Shortcut
 pub mod Naming
 pub mod Collecting
-pub mod Completing
 pub mod Receiving
 pub mod Written
 pub mod Figures

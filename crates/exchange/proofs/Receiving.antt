@@ -2,7 +2,7 @@
 use mathlib.Core.Path.{◌≡◌, refl, sym, ap, ◌∙◌}
 use mathlib.Core.Bool.{true, false}
 use mathlib.Core.List.{List, ◌++◌}
-use mathlib.Core.Option.{Option, none, some}
+use mathlib.Core.Option.{none, some}
 use Prim.Native.Nat.{ℕ, zero, suc, ◌-◌, ◌≤◌, ◌<◌, min}
 use native.Mathlib.Omega.{arith}
 use lib.Dec.{leb}
@@ -13,14 +13,10 @@ use Rattle.subsets.specs.Subsets.{padded}
 use Rattle.searching.specs.Finding.{no_finding}
 use Rattle.searching.specs.declared.finding.Finding.{Finding}
 use Rattle.judging.specs.Check.{check_refusal, checked_scratch}
-use Rattle.exchange.specs.Grammar.{Exchanged, low_of}
+use Rattle.exchange.specs.Grammar.{Exchanged}
 use Rattle.exchange.specs.Reader.{read_text}
-use Rattle.exchange.specs.Cursor.{Counts, Says, TextIs, numbers_in, truth_held}
 use Rattle.exchange.specs.Exchange.{room_refusal, begun, said_finding, said_refusal, reading_with, Reads}
-use Rattle.exchange.specs.declared.members.Found.{Found}
-use Rattle.exchange.specs.declared.text.TextRead.{TextRead}
 use Rattle.exchange.specs.declared.reader.Reading.{Reading}
-use Rattle.exchange.proofs.Getting.{clash}
 
 -- ---- bits, in an array of twenty
 
@@ -54,25 +50,6 @@ module _ (ns order stored : List ℕ) (count : ℕ) (e : count ≡ length ns) (r
 
   pub order_first : take count (stored ++ drop count order) ≡ ns
   order_first = take_at stored (drop count order) count (ap length all_stored ∙ sym e) ∙ all_stored
-
--- ---- what the text says
-
-abbrev pub said_in : List ℕ → Found → Exchanged
-said_in s f =
-    record {
-      bits = numbers_in (drop f.bits.from s);
-      indices = numbers_in (drop f.indices.from s);
-      division = f.division.value;
-      block = f.block_size.value;
-      low_first = low_of (truth_held f.low_first);
-    }
-
-pub text_got : (s : List ℕ) (o : Option Exchanged) (r : TextRead) → TextIs s o r → r.ok ≡ true
-    → (o ≡ some (said_in s r.found)) × Counts s r.found.bits × Counts s r.found.indices
-text_got s none r h e = clash r.ok e h
-text_got s (some x) r h e =
-    let says : Says s r.found x = h.1 in
-    ((λ i. some (record { bits = sym says.bits.1 i; indices = sym says.indices.1 i; division = sym says.division i; block = sym says.block i; low_first = sym says.low i })), says.bits.0, says.indices.0)
 
 -- ---- the whole
 

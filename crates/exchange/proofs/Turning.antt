@@ -1,44 +1,62 @@
 -- Laws of a cursor's loop over numbers: what its steps' answers make of a turn.
-use mathlib.Core.Path.{◌≡◌, sym, ap, ◌∙◌}
+use mathlib.Core.Path.{◌≡◌, refl, sym, ap, ◌∙◌}
 use mathlib.Core.List.{List, [], ◌∷◌, ◌++◌}
 use mathlib.Core.Option.{none, some}
-use Prim.Native.Nat.{ℕ, ◌+◌, ◌≤◌, ◌<◌}
+use Prim.Native.Nat.{ℕ, ◌≤◌, ◌<◌}
 use native.Mathlib.Omega.{arith}
-use lib.ListN.{length, get_or, drop, length-append, length-drop}
+use lib.ListN.{length, length-append}
 use borrow.Author.Tests.{eq-eqb, ne_eqb}
+use Rattle.std.specs.Prelude.{slice_index_or}
 use Rattle.exchange.specs.Grammar.{ascii}
 use Rattle.exchange.specs.Reader.{Read, skip, read_exactly, read_token, read_word, read_entry, read_separated}
-use Rattle.exchange.proofs.Tokens.{token_sound}
+use Rattle.exchange.specs.Cursor.{rest_of}
+use Rattle.exchange.proofs.Tokens.{none_some, some_same, token_sound}
 use Rattle.exchange.proofs.Numbers.{word_sound}
 use Rattle.exchange.proofs.Objects.{token_long}
 use Rattle.exchange.proofs.Following.{entry_turn}
-use Rattle.exchange.proofs.Stepping.{next}
+use Rattle.exchange.proofs.Stepping.{behind_first, front}
 
 -- ---- one byte
 
-pub mark_end : (c : ℕ) (s t : List ℕ) → skip s ≡ t → t ≡ [] → read_token (c ∷ []) s ≡ none
-unfolding read_token read_exactly
-mark_end c s t e h = rw (e, h)
-
-module _ (c : ℕ) (s : List ℕ) (i at : ℕ) (less : i < length s) (e : drop i s ≡ skip (drop at s)) where
-  front : skip (drop at s) ≡ get_or s i 0 ∷ drop (i + 1) s
-  front = sym e ∙ next s i less
-
-  pub mark_here : get_or s i 0 ≡ c → read_token (c ∷ []) (drop at s) ≡ some (drop (i + 1) s)
+module _ (c : ℕ) (s u : List ℕ) (e : u ≡ skip s) where
+  pub mark_end : length u < 1 → read_token (c ∷ []) s ≡ none
   unfolding read_token read_exactly
-  mark_here h = rw (front, eq-eqb _ _ h)
+  mark_end h = rw (← e) (by_bytes u h)
+    where
+      by_bytes : (v : List ℕ) → length v < 1 → read_exactly (c ∷ []) v ≡ none
+      by_bytes [] h = refl
+      by_bytes (b ∷ v) h = absurd (omega arith)
 
-  pub mark_other : (get_or s i 0 ≡ c → ⊥) → read_token (c ∷ []) (drop at s) ≡ none
-  unfolding read_token read_exactly
-  mark_other h = rw (front, ne_eqb _ _ h)
+  module _ (some_byte : 1 ≤ length u) where
+    first : skip s ≡ slice_index_or u 0 0 ∷ behind_first u
+    first = sym e ∙ front u some_byte
+
+    pub mark_here : slice_index_or u 0 0 ≡ c → read_token (c ∷ []) s ≡ some (behind_first u)
+    unfolding read_token read_exactly
+    mark_here h = rw (first, eq-eqb _ _ h)
+
+    pub mark_other : (slice_index_or u 0 0 ≡ c → ⊥) → read_token (c ∷ []) s ≡ none
+    unfolding read_token read_exactly
+    mark_other h = rw (first, ne_eqb _ _ h)
+
+-- ---- a number that was read past
+
+pub rest_got : (o : Read ℕ) (t : List ℕ) → some t ≡ rest_of o → (n : ℕ) × (o ≡ some (n, t))
+rest_got none t e = none_some (sym e)
+rest_got (some p) t e = (p.0, (λ i. some (p.0, some_same (sym e) i)))
+
+pub rest_none : (o : Read ℕ) → none ≡ rest_of o → o ≡ none
+rest_none none e = refl
+rest_none (some p) e = none_some e
 
 -- ---- a turn
 
-pub past : (s k : List ℕ) (i b j v : ℕ) → 1 ≤ length k → read_word (drop i s) ≡ some (v, drop b s) → read_token k (drop b s) ≡ some (drop j s) → i ≤ length s → i < j
-past s k i b j v some_byte x y h =
-    let (a, p, w) = word_sound (drop i s) (v, drop b s) x in
-    let (d, q, t) = token_sound k (drop b s) (drop j s) y in
-    omega (arith, ap length p, length-append a (drop b s), ap length q, length-append d (drop j s), token_long t, length-drop i s, length-drop j s)
+-- a number and its mark take a byte or more
+pub past : (s t u k : List ℕ) (v : ℕ) → 1 ≤ length k → read_word s ≡ some (v, t) → read_token k t ≡ some u → length u < length s
+past s t u k v some_byte x y =
+    let (a, p, w) = word_sound s (v, t) x in
+    let (d, q, m) = token_sound k t u y in
+    omega (arith, ap length p, length-append a t, ap length q, length-append d u, token_long m)
 
 abbrev pub entries_from : List ℕ → List ℕ → Read (List ℕ)
 entries_from ns s = read_separated read_entry (ascii "]") ns s

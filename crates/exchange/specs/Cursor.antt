@@ -1,125 +1,76 @@
--- A cursor over the bytes of a text: what each step answers, in the reader's words.
-use Rattle.std.specs.Prelude.{◌≡◌, Bool, true, false, cond, List, [], ℕ, ◌+◌, ◌≤◌, ◌<◌, length, get_or, drop}
-use Rattle.std.proofs.Math.Option.{Option, none, some}
-use Rattle.exchange.specs.Grammar.{Exchanged, is_digit, Seen, seen, low_of}
-use Rattle.exchange.specs.Reader.{Read, read_array}
-use Rattle.exchange.specs.declared.cursor.Place.{Place}
-use Rattle.exchange.specs.declared.words.WordAt.{WordAt}
-use Rattle.exchange.specs.declared.truth.TruthAt.{TruthAt}
-use Rattle.exchange.specs.declared.arrays.Counted.{Counted}
-use Rattle.exchange.specs.declared.arrays.ArrayAt.{ArrayAt}
-use Rattle.exchange.specs.declared.keys.Name.{Name}
-use Rattle.exchange.specs.declared.keys.KeyAt.{KeyAt}
+-- What the steps of the code that reads a text answer, in the reader's words. A cursor is the bytes that are left.
+use Rattle.std.specs.Prelude.{Bool, false, List, [], ◌∷◌, ℕ, length, Option, Some, None}
+use Rattle.std.specs.Borrow.{Bor}
+use Rattle.std.proofs.Math.Option.{none, some}
+use Rattle.std.proofs.Math.Option as maybe
+use Rattle.exchange.specs.Grammar.{Exchanged, is_digit, Seen, seen}
+use Rattle.exchange.specs.Reader.{Read}
+use Rattle.exchange.specs.Arrays.{numbers_in}
+use Rattle.exchange.specs.declared.listed.Listed.{Listed}
 use Rattle.exchange.specs.declared.members.Found.{Found}
-use Rattle.exchange.specs.declared.members.MembersAt.{MembersAt}
-use Rattle.exchange.specs.declared.text.TextRead.{TextRead}
+use Rattle.exchange.specs.declared.text.Said.{Said}
 
--- from place i on the bytes t are left
-pub record At (s : List ℕ) (i : ℕ) (t : List ℕ) : Type 0 where
-  pub within : i ≤ length s
-  pub left : drop i s ≡ t
+-- nothing, or f of what there is
+abbrev pub told : {A B : Type 0} → (A → B) → Option A → maybe.Option B
+told f None = none
+told f (Some a) = some (f a)
 
--- the step got what o says: nothing, or something of which P holds
-abbrev pub Got : {A : Type 0} → Bool → Option A → (A → Type 0) → Type 0
-Got ok none P = ok ≡ false
-Got ok (some a) P = (ok ≡ true) × P a
+-- the bytes that are left
+abbrev pub left_of : Option (Bor (List ℕ)) → maybe.Option (List ℕ)
+left_of o = told (λ t. t.now) o
 
--- ---- tokens, numbers, true and false, arrays, keys: the place behind them, and what they say
+-- what was read, and the bytes that are left
+abbrev pub read_of : {A : Type 0} → Option (A × Bor (List ℕ)) → Read A
+read_of o = told (λ p. (p.0, p.1.now)) o
 
--- a token: the place behind it
-abbrev pub PlaceIs : List ℕ → Option (List ℕ) → Place → Type 0
-PlaceIs s o r = Got r.ok o (λ t. At s r.at t)
-
--- a whole number, and the place
-abbrev pub WordIs : List ℕ → Read ℕ → WordAt → Type 0
-WordIs s o r = Got r.ok o (λ p. (r.value ≡ p.0) × At s r.at p.1)
-
--- true or false, and the place
-abbrev pub TruthIs : List ℕ → Read Bool → TruthAt → Type 0
-TruthIs s o r = Got r.ok o (λ p. (r.value ≡ p.0) × At s r.at p.1)
-
--- how many numbers, and the place
-abbrev pub CountIs : List ℕ → Read (List ℕ) → Counted → Type 0
-CountIs s o r = Got r.ok o (λ p. (r.count ≡ length p.0) × At s r.at p.1)
-
--- the same of an array, and where it begins
-abbrev pub ArrayIs : List ℕ → ℕ → Read (List ℕ) → ArrayAt → Type 0
-ArrayIs s from o r = Got r.ok o (λ p. (r.from ≡ from) × (r.count ≡ length p.0) × At s r.at p.1)
-
--- which key, and the place
-abbrev pub KeyIs : List ℕ → Read Name → KeyAt → Type 0
-KeyIs s o r = Got r.ok o (λ p. (r.name ≡ p.0) × At s r.at p.1)
+-- ---- numbers
 
 -- the bytes behind a number
-abbrev pub rest_of : Read ℕ → Option (List ℕ)
+abbrev pub rest_of : Read ℕ → maybe.Option (List ℕ)
 rest_of none = none
 rest_of (some p) = some p.1
 
--- n digits stand at a place
-abbrev pub DigitsAt : List ℕ → ℕ → ℕ → Type 0
-DigitsAt s at n = (i : ℕ) → i < n → is_digit (get_or s (at + i) 0) ≡ true
-
--- five of them, the first no 0, and no further one behind them
-pub record FiveDigits (s : List ℕ) (at : ℕ) : Type 0 where
-  pub within : at + 6 ≤ length s
-  pub digits : DigitsAt s at 5
-  pub leading : get_or s at 0 ≡ 48 → ⊥
-  pub ended : is_digit (get_or s (at + 5) 0) ≡ false
+-- a digit stands first
+abbrev pub digit_first : List ℕ → Bool
+digit_first [] = false
+digit_first (c ∷ s) = is_digit c
 
 -- something was read
-abbrev pub IsRead : {A : Type 0} → Option A → Type 0
+abbrev pub IsRead : {A : Type 0} → maybe.Option A → Type 0
 IsRead none = ⊥
 IsRead (some a) = Unit {0}
 
--- ---- members: an array is held by its place and its number of entries
+-- ---- arrays
 
--- the numbers that were read
-abbrev pub first_of : Read (List ℕ) → List ℕ
-first_of none = []
-first_of (some p) = p.0
+-- how many numbers were read
+abbrev pub counted : Read (List ℕ) → Read ℕ
+counted none = none
+counted (some p) = some (length p.0, p.1)
 
--- the numbers of the array that stands first; none where none does
-unfoldable pub numbers_in : List ℕ → List ℕ
-numbers_in s = first_of (read_array s)
+-- the numbers of an array that was read
+abbrev pub numbers_of : Listed → List ℕ
+numbers_of l = numbers_in l.text.now
 
--- an array that was found or was not, as its numbers
-abbrev pub list_held : List ℕ → ArrayAt → Option (List ℕ)
-list_held s r = cond r.ok (some (numbers_in (drop r.from s))) none
+-- an array that was read, and the bytes that are left
+abbrev pub array_of : Option (Listed × Bor (List ℕ)) → Read (List ℕ)
+array_of o = told (λ p. (numbers_of p.0, p.1.now)) o
 
--- a number that was found or was not
-abbrev pub word_held : WordAt → Option ℕ
-word_held r = cond r.ok (some r.value) none
-
--- true or false, found or not
-abbrev pub truth_held : TruthAt → Option Bool
-truth_held r = cond r.ok (some r.value) none
+-- ---- members
 
 -- what the members so far have said
-abbrev pub seen_in : List ℕ → Found → Seen
-seen_in s f = seen (list_held s f.bits) (list_held s f.indices) (word_held f.division) (word_held f.block_size) (truth_held f.low_first) f.scored
+abbrev pub seen_in : Found → Seen
+seen_in f =
+    seen (told numbers_of f.bits) (told numbers_of f.indices) (told (λ n. n) f.division) (told (λ n. n) f.block_size) (told (λ v. v) f.low_first) f.scored
 
--- an array that was read lies in the text, and was counted
-pub record Counts (s : List ℕ) (r : ArrayAt) : Type 0 where
-  pub within : r.from ≤ length s
-  pub counted : r.count ≡ length (numbers_in (drop r.from s))
+-- what all members have said, and the bytes that are left
+abbrev pub members_of : Option (Found × Bor (List ℕ)) → Read Seen
+members_of o = told (λ p. (seen_in p.0, p.1.now)) o
 
--- so of both arrays
-pub record Sized (s : List ℕ) (f : Found) : Type 0 where
-  pub bits : f.bits.ok ≡ true → Counts s f.bits
-  pub indices : f.indices.ok ≡ true → Counts s f.indices
+-- ---- a whole text
 
--- what all members have said, and the place
-abbrev pub MembersAre : List ℕ → Read Seen → MembersAt → Type 0
-MembersAre s o r = Got r.ok o (λ p. (seen_in s r.found ≡ p.0) × Sized s r.found × At s r.at p.1)
+-- what a text says
+abbrev pub exchanged_in : Said → Exchanged
+exchanged_in r = record { bits = numbers_of r.bits; indices = numbers_of r.indices; division = r.division; block = r.block_size; low_first = r.low_first }
 
--- what a whole text says
-pub record Says (s : List ℕ) (f : Found) (e : Exchanged) : Type 0 where
-  pub bits : Counts s f.bits × (numbers_in (drop f.bits.from s) ≡ e.bits)
-  pub indices : Counts s f.indices × (numbers_in (drop f.indices.from s) ≡ e.indices)
-  pub division : f.division.value ≡ e.division
-  pub block : f.block_size.value ≡ e.block
-  pub low : low_of (truth_held f.low_first) ≡ e.low_first
-
--- a text, where it is one
-abbrev pub TextIs : List ℕ → Option Exchanged → TextRead → Type 0
-TextIs s o r = Got r.ok o (λ e. Says s r.found e)
+abbrev pub said_of : Option Said → maybe.Option Exchanged
+said_of o = told exchanged_in o

@@ -2,6 +2,7 @@
 pub mod Grammar
 pub mod Reader
 pub mod Writer
+pub mod Arrays
 pub mod Cursor
 pub mod Exchange
 pub mod Length

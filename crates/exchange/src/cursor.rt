@@ -1,79 +1,34 @@
-// A cursor over the bytes of a text: each step takes the place to read from and gives the place behind what it read.
-ghost use Rattle.std.specs.Prelude.{◌≡◌, false, ◌≤◌, length, drop};
+// A cursor is the bytes that are left of a text: each step takes them and gives those behind what it read.
+ghost use Rattle.std.specs.Prelude.{◌≡◌};
 ghost use Rattle.exchange.specs.Grammar.{is_space};
-ghost use Rattle.exchange.specs.Reader.{skip, read_exactly, read_token};
-ghost use Rattle.exchange.specs.Cursor.{At, PlaceIs};
+ghost use Rattle.exchange.specs.Reader.{skip, read_token};
+ghost use Rattle.exchange.specs.Cursor.{left_of};
 
-// Whether something was read, and the place behind it.
-#[derive(Clone, Copy)]
-pub struct Place {
-    pub ok: bool,
-    pub at: usize,
-}
-
-// The place of the first byte from `at` on that is no white space, or the end.
-pub fn skip_space(s: &[u8], at: usize) -> usize
-    requires { at ≤ length s.now }
-    ensures { At s.now result (skip (drop at s.now)) }
+// The bytes from the first on that is no white space.
+#[tactic(auto, unfolding(crate::specs::Reader::skip))]
+pub fn skip_space(s: &[u8]) -> &[u8]
+    ensures { result.now ≡ skip s.now }
 {
-    let mut i = at;
-    while i < s.len() {
-        if !is_space(s[i]) {
-            return i;
-        }
-        i += 1;
+    let mut left = s;
+    while let [c, more @ ..] = left
+        && is_space(*c)
+    {
+        left = more;
     }
-    i
+    left
 }
 
 // Space, tab, line feed or carriage return.
+#[tactic(auto, unfolding(crate::specs::Grammar::is_space))]
 fn is_space(c: u8) -> bool
     ensures { result ≡ is_space c }
 {
-    if c == 0x20 {
-        return true;
-    }
-    if c == 0x09 {
-        return true;
-    }
-    if c == 0x0a {
-        return true;
-    }
-    c == 0x0d
+    matches!(c, b' ' | b'\t' | b'\n' | b'\r')
 }
 
 // The bytes k, white space before them.
-pub fn token(s: &[u8], at: usize, k: &[u8]) -> Place
-    requires { at ≤ length s.now }
-    ensures { PlaceIs s.now (read_token k.now (drop at s.now)) result }
+pub fn token<'a>(s: &'a [u8], k: &[u8]) -> Option<&'a [u8]>
+    ensures { left_of result ≡ read_token k.now s.now }
 {
-    let start = skip_space(s, at);
-    exactly(s, start, k)
-}
-
-// The bytes k themselves.
-fn exactly(s: &[u8], at: usize, k: &[u8]) -> Place
-    requires { at ≤ length s.now }
-    ensures { PlaceIs s.now (read_exactly k.now (drop at s.now)) result }
-{
-    let mut i = at;
-    let mut j: usize = 0;
-    while j < k.len() {
-        if i == s.len() {
-            return nowhere();
-        }
-        if s[i] != k[j] {
-            return nowhere();
-        }
-        i += 1;
-        j += 1;
-    }
-    Place { ok: true, at: i }
-}
-
-// Nothing was read.
-pub fn nowhere() -> Place
-    ensures { result.ok ≡ false }
-{
-    Place { ok: false, at: 0 }
+    skip_space(s).strip_prefix(k)
 }

@@ -5,6 +5,7 @@ mod arrays;
 mod cursor;
 mod decimals;
 mod keys;
+mod listed;
 mod members;
 pub mod reader;
 mod score;

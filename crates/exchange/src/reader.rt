@@ -1,15 +1,13 @@
 // Reading a finding and its order.
-ghost use Rattle.std.specs.Prelude.{◌≡◌, min, [], take, drop};
+ghost use Rattle.std.specs.Prelude.{◌≡◌, take};
 ghost use Rattle.subsets.specs.Subsets.{padded};
 ghost use Rattle.searching.specs.Finding.{no_finding};
-ghost use Rattle.exchange.specs.Grammar.{low_of};
-ghost use Rattle.exchange.specs.Cursor.{Counts, numbers_in, truth_held};
+ghost use Rattle.exchange.specs.Cursor.{numbers_of, exchanged_in};
 ghost use Rattle.exchange.specs.Exchange.{said_finding, Reads};
 
-use crate::arrays::{ArrayAt, store_entries};
-use crate::members::Found;
-use crate::text::read_text;
-use crate::truth::is_true;
+use crate::arrays::store_entries;
+use crate::listed::Listed;
+use crate::text::{Said, read_text};
 use judging::check::validate;
 use searching::finding::Finding;
 
@@ -25,19 +23,16 @@ pub struct Reading {
 pub fn read_finding(text: &[u8], order: &mut [u32], scratch: &mut [u32]) -> Reading
     ensures { Reads text.now order.old scratch.old result order.new scratch.new }
 {
-    let read = read_text(text);
-    if !read.ok {
+    let Some(said) = read_text(text) else {
         return refused(16);
-    }
-    let found = read.found;
-    let indices = found.indices;
-    let from = indices.from;
+    };
+    let indices = said.indices;
     let count = indices.count;
     if order.len() < count {
         return refused(17);
     }
-    store_entries(text, from, &mut order[..count]);
-    let finding = finding_at(text, found);
+    store_entries(indices.text, &mut order[..count]);
+    let finding = finding_of(said);
     let refusal = validate(finding, &order[..count], scratch);
     if refusal != 0 {
         return refused(refusal);
@@ -58,42 +53,25 @@ fn refused(refusal: u32) -> Reading
 }
 
 // The finding of a text that is one: the width is the number of its bits, of which the array has room for twenty.
-fn finding_at(text: &[u8], found: Found) -> Finding
-    requires { Counts text.now found.bits }
-    ensures { result ≡ said_finding (record { bits = numbers_in (drop found.bits.from text.now); indices = []; division = found.division.value; block = found.block_size.value; low_first = low_of (truth_held found.low_first) }) }
+fn finding_of(said: Said<'_>) -> Finding
+    ensures { result ≡ said_finding (exchanged_in said.entry) }
 {
-    let listed = found.bits;
-    let division = found.division;
-    let block_size = found.block_size;
-    let low_first = found.low_first;
     Finding {
-        block_size: block_size.value as usize,
-        width: listed.count,
-        bits: bits_at(text, listed),
-        division: division.value,
+        block_size: said.block_size as usize,
+        width: said.bits.count,
+        bits: bits_of(said.bits),
+        division: said.division,
         z: 0.0,
-        low_first: is_true(low_first),
+        low_first: said.low_first,
     }
 }
 
 // The first twenty bits, with zeros past them.
-fn bits_at(text: &[u8], listed: ArrayAt) -> [u32; 20]
-    requires { Counts text.now listed }
-    ensures { result ≡ padded (take 20 (numbers_in (drop listed.from text.now))) }
+fn bits_of(listed: Listed<'_>) -> [u32; 20]
+    ensures { result ≡ padded (take 20 (numbers_of listed.entry)) }
 {
     let mut bits = [0u32; 20];
-    let from = listed.from;
-    let count = at_most_twenty(listed.count);
-    store_entries(text, from, &mut bits[..count]);
+    let count = listed.count.min(20);
+    store_entries(listed.text, &mut bits[..count]);
     bits
-}
-
-// As many as the array has room for.
-fn at_most_twenty(count: usize) -> usize
-    ensures { result ≡ min count 20 }
-{
-    if count > 20 {
-        return 20;
-    }
-    count
 }

@@ -1,136 +1,91 @@
 // The number of a z_score: any of RFC 8259, read past and not kept.
-ghost use Rattle.std.specs.Prelude.{◌≡◌, ◌≤◌, length, drop};
-ghost use Rattle.exchange.specs.Grammar.{is_exp};
+ghost use Rattle.std.specs.Prelude.{◌≡◌};
 ghost use Rattle.exchange.specs.Reader.{skip_digits, skip_minus, skip_sign, read_whole, skip_fraction, skip_exponent, skip_number, skip_score};
-ghost use Rattle.exchange.specs.Cursor.{At, PlaceIs, rest_of};
+ghost use Rattle.exchange.specs.Cursor.{left_of, rest_of};
 
-use crate::cursor::{Place, nowhere, skip_space};
+use crate::cursor::skip_space;
 use crate::words::{is_digit, skip_more};
 
 // A number of any kind, white space before it.
-pub fn skip_score(s: &[u8], at: usize) -> Place
-    requires { at ≤ length s.now }
-    ensures { PlaceIs s.now (skip_score (drop at s.now)) result }
+#[tactic(auto, unfolding(crate::specs::Reader::skip_score))]
+pub fn skip_score(s: &[u8]) -> Option<&[u8]>
+    ensures { left_of result ≡ skip_score s.now }
 {
-    let start = skip_space(s, at);
-    skip_number(s, start)
+    skip_number(skip_space(s))
 }
 
 // [ minus ] int [ frac ] [ exp ]
-fn skip_number(s: &[u8], at: usize) -> Place
-    requires { at ≤ length s.now }
-    ensures { PlaceIs s.now (skip_number (drop at s.now)) result }
+#[tactic(auto, unfolding(crate::specs::Reader::skip_number))]
+fn skip_number(s: &[u8]) -> Option<&[u8]>
+    ensures { left_of result ≡ skip_number s.now }
 {
-    let whole = skip_whole(s, skip_minus(s, at));
-    if !whole.ok {
-        return nowhere();
-    }
-    let fraction = skip_fraction(s, whole.at);
-    if !fraction.ok {
-        return nowhere();
-    }
-    skip_exponent(s, fraction.at)
+    let whole = skip_whole(skip_minus(s))?;
+    let fraction = skip_fraction(whole)?;
+    skip_exponent(fraction)
 }
 
 // [ minus ]
-fn skip_minus(s: &[u8], at: usize) -> usize
-    requires { at ≤ length s.now }
-    ensures { At s.now result (skip_minus (drop at s.now)) }
+#[tactic(auto, unfolding(crate::specs::Reader::skip_minus))]
+fn skip_minus(s: &[u8]) -> &[u8]
+    ensures { result.now ≡ skip_minus s.now }
 {
-    if at == s.len() {
-        return at;
+    match s {
+        [b'-', left @ ..] => left,
+        _ => s,
     }
-    if s[at] == b'-' {
-        return at + 1;
-    }
-    at
 }
 
 // int = zero / ( digit1-9 *DIGIT )
-fn skip_whole(s: &[u8], at: usize) -> Place
-    requires { at ≤ length s.now }
-    ensures { PlaceIs s.now (rest_of (read_whole (drop at s.now))) result }
+#[tactic(auto, using(crate::proofs::Stepping::digits_behind), unfolding(crate::specs::Reader::read_whole, crate::specs::Reader::skip_digits, crate::specs::Reader::read_digits, crate::specs::Grammar::is_digit))]
+fn skip_whole(s: &[u8]) -> Option<&[u8]>
+    ensures { left_of result ≡ rest_of (read_whole s.now) }
 {
-    if at == s.len() {
-        return nowhere();
+    match s {
+        [b'0', left @ ..] => Some(left),
+        _ => skip_digits(s),
     }
-    if s[at] == b'0' {
-        return Place {
-            ok: true,
-            at: at + 1,
-        };
-    }
-    skip_digits(s, at)
 }
 
 // One digit or more.
-fn skip_digits(s: &[u8], at: usize) -> Place
-    requires { at ≤ length s.now }
-    ensures { PlaceIs s.now (skip_digits (drop at s.now)) result }
+#[tactic(auto, unfolding(crate::specs::Reader::skip_digits))]
+fn skip_digits(s: &[u8]) -> Option<&[u8]>
+    ensures { left_of result ≡ skip_digits s.now }
 {
-    if at == s.len() {
-        return nowhere();
-    }
-    if !is_digit(s[at]) {
-        return nowhere();
-    }
-    Place {
-        ok: true,
-        at: skip_more(s, at),
+    match s {
+        [c, ..] if is_digit(*c) => Some(skip_more(s)),
+        _ => None,
     }
 }
 
 // [ frac ], frac = "." 1*DIGIT
-fn skip_fraction(s: &[u8], at: usize) -> Place
-    requires { at ≤ length s.now }
-    ensures { PlaceIs s.now (skip_fraction (drop at s.now)) result }
+#[tactic(auto, unfolding(crate::specs::Reader::skip_fraction))]
+fn skip_fraction(s: &[u8]) -> Option<&[u8]>
+    ensures { left_of result ≡ skip_fraction s.now }
 {
-    if at == s.len() {
-        return Place { ok: true, at };
+    match s {
+        [b'.', left @ ..] => skip_digits(left),
+        _ => Some(s),
     }
-    if s[at] == b'.' {
-        return skip_digits(s, at + 1);
-    }
-    Place { ok: true, at }
 }
 
 // [ exp ], exp = e [ minus / plus ] 1*DIGIT
-fn skip_exponent(s: &[u8], at: usize) -> Place
-    requires { at ≤ length s.now }
-    ensures { PlaceIs s.now (skip_exponent (drop at s.now)) result }
+#[tactic(auto, unfolding(crate::specs::Reader::skip_exponent, crate::specs::Grammar::is_exp))]
+fn skip_exponent(s: &[u8]) -> Option<&[u8]>
+    ensures { left_of result ≡ skip_exponent s.now }
 {
-    if at == s.len() {
-        return Place { ok: true, at };
+    match s {
+        [b'e' | b'E', left @ ..] => skip_digits(skip_sign(left)),
+        _ => Some(s),
     }
-    if is_exp(s[at]) {
-        return skip_digits(s, skip_sign(s, at + 1));
-    }
-    Place { ok: true, at }
-}
-
-// 'e' or 'E'.
-fn is_exp(c: u8) -> bool
-    ensures { result ≡ is_exp c }
-{
-    if c == b'e' {
-        return true;
-    }
-    c == b'E'
 }
 
 // [ minus / plus ]
-fn skip_sign(s: &[u8], at: usize) -> usize
-    requires { at ≤ length s.now }
-    ensures { At s.now result (skip_sign (drop at s.now)) }
+#[tactic(auto, unfolding(crate::specs::Reader::skip_sign))]
+fn skip_sign(s: &[u8]) -> &[u8]
+    ensures { result.now ≡ skip_sign s.now }
 {
-    if at == s.len() {
-        return at;
+    match s {
+        [b'+' | b'-', left @ ..] => left,
+        _ => s,
     }
-    if s[at] == b'+' {
-        return at + 1;
-    }
-    if s[at] == b'-' {
-        return at + 1;
-    }
-    at
 }

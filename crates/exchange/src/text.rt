@@ -1,64 +1,51 @@
 // A whole text: one object with each of the four keys.
-ghost use Rattle.std.specs.Prelude.{◌≤◌, ◌≡◌, false, ◌&&◌};
-ghost use Rattle.exchange.specs.Reader.{read_text};
-ghost use Rattle.exchange.specs.Cursor.{TextIs};
+ghost use Rattle.std.specs.Prelude.{◌≡◌};
+ghost use Rattle.exchange.specs.Reader.{whole, read_text};
+ghost use Rattle.exchange.specs.Cursor.{seen_in, said_of};
 
 use crate::cursor::{skip_space, token};
-use crate::members::{Found, nothing_found, read_members};
+use crate::listed::Listed;
+use crate::members::{Found, read_members};
 
-// Whether the text is one, and what it says.
+// What a text says.
 #[derive(Clone, Copy)]
-pub struct TextRead {
-    pub ok: bool,
-    pub found: Found,
+pub struct Said<'a> {
+    pub bits: Listed<'a>,
+    pub indices: Listed<'a>,
+    pub division: u32,
+    pub block_size: u32,
+    pub low_first: bool,
 }
 
 // The object, and nothing but white space around it.
-pub fn read_text(s: &[u8]) -> TextRead
-    ensures { TextIs s.now (read_text s.now) result }
+#[tactic(auto, unfolding(crate::specs::Reader::read_text))]
+pub fn read_text(s: &[u8]) -> Option<Said<'_>>
+    ensures { said_of result ≡ read_text s.now }
 {
-    let open = token(s, 0, b"{");
-    if !open.ok {
-        return no_text();
+    let inside = token(s, b"{")?;
+    let (found, left) = read_members(inside)?;
+    let ended = skip_space(left).is_empty();
+    if !ended {
+        return None;
     }
-    let members = read_members(s, open.at);
-    if !members.ok {
-        return no_text();
-    }
-    if skip_space(s, members.at) != s.len() {
-        return no_text();
-    }
-    let found = members.found;
-    TextRead {
-        ok: complete(found),
-        found,
-    }
+    complete(found)
 }
 
-// Whether all four keys were there.
-fn complete(found: Found) -> bool
-    ensures { result ≡ (found.bits.ok && found.indices.ok && found.division.ok && found.block_size.ok) }
+// What was said, where all four keys were there.
+#[tactic(auto, unfolding(crate::specs::Reader::whole))]
+fn complete(found: Found<'_>) -> Option<Said<'_>>
+    ensures { said_of result ≡ whole (seen_in found.entry) }
 {
-    let bits = found.bits;
-    let indices = found.indices;
-    let division = found.division;
-    let block_size = found.block_size;
-    if !bits.ok {
-        return false;
-    }
-    if !indices.ok {
-        return false;
-    }
-    if !division.ok {
-        return false;
-    }
-    block_size.ok
-}
-
-// No text.
-fn no_text() -> TextRead
-    ensures { result.ok ≡ false }
-{
-    let found = nothing_found();
-    TextRead { ok: false, found }
+    let bits = found.bits?;
+    let indices = found.indices?;
+    let division = found.division?;
+    let block_size = found.block_size?;
+    let low_first = found.low_first.unwrap_or(false);
+    Some(Said {
+        bits,
+        indices,
+        division,
+        block_size,
+        low_first,
+    })
 }

@@ -1,112 +1,82 @@
 -- `arrays::count_entries` meets its contract: each turn is one turn of the definition, from the numbers so far.
-use borrow.Author.Rules.{rules}
-use borrow.Author.Tests.{not-true, not-false}
-use mathlib.Core.Path.{◌≡◌, refl, sym, ◌∙◌}
-use mathlib.Core.List.{List, [], ◌∷◌, ◌++◌}
-use mathlib.Core.Option.{none, some}
-use Prim.Native.Nat.{ℕ, ◌+◌, ◌≤◌, ◌<◌}
-use native.Mathlib.Omega.{arith}
-use lib.ListN.{length, get_or, drop, length-append}
+use Rattle.std.proofs.Common.{◌≡◌, ℕ, ◌+◌, ◌<◌, ◌≤◌, slice_index_or, rules, List, [], ◌∷◌, ◌++◌, length, length-append, sym, ap, ◌∙◌, arith}
+use Rattle.std.proofs.Math.Option.{none, some}
 use Rattle.exchange.specs.Reader.{Read, read_token, read_word}
-use Rattle.exchange.specs.Cursor.{rest_of}
-use Rattle.exchange.proofs.Getting.{not_got, got_none, place_got, count_is}
-use Rattle.exchange.proofs.Stepping.{none_left, rest_got, rest_none}
-use Rattle.exchange.proofs.Turning.{mark_end, mark_here, mark_other, past, entries_from, entries_stop, entries_close, entries_open, entries_next}
-use Rattle.exchange.proofs.arrays.count_entries.Goals.{After-skip_space-next, At-loop-word}
+use Rattle.exchange.specs.Cursor.{counted, read_of}
+use Rattle.exchange.proofs.Stepping.{behind_first}
+use Rattle.exchange.proofs.Turning.{mark_end, mark_here, mark_other, rest_got, rest_none, past, entries_from, entries_stop, entries_close, entries_open, entries_next}
+use Rattle.exchange.proofs.arrays.count_entries.Goals.{After-skip_space, At-loop-behind, in_default-via-then-skip_space-lt1, in_default-via-else-skip_space-lt1+in_default-1}
 use Rattle.exchange.proofs.arrays.count_entries.Goals as goal
 
--- ---- what is known in a turn
+-- what is known in a turn: the numbers so far lead where all lead
 
-module _ (d : At-loop-word) where
-  abbrev text : List ℕ
-  text = d.args.s.now
-
-  abbrev place : ℕ
-  place = d.loop-word.i
-
+module _ (d : At-loop-behind) where
   abbrev so_far : List ℕ
-  so_far = d.loop-word.invariant.2.0
+  so_far = d.loop-behind.invariant.1.0
 
-  led : (o : Read (List ℕ)) → entries_from so_far (drop place text) ≡ o → entries_from [] (drop d.args.at text) ≡ o
-  led o e = d.loop-word.invariant.2.2 ∙ e
+  led : (o : Read (List ℕ)) → entries_from so_far d.loop-behind.left.now ≡ o → entries_from [] d.args.s.now ≡ o
+  led o e = d.loop-behind.invariant.1.2 ∙ e
 
 -- behind a number
 
-module _ (k : After-skip_space-next) where
-  abbrev behind : ℕ
-  behind = k.skip_word-word.result.at
+module _ (k : After-skip_space) where
+  abbrev text : List ℕ
+  text = k.loop-behind.left.now
 
-  found : (n : ℕ) × (read_word (drop k.loop-word.i k.args.s.now) ≡ some (n, drop behind k.args.s.now))
-  found =
-      rest_got (read_word (drop k.loop-word.i k.args.s.now)) _ (place_got k.args.s.now _ k.skip_word-word.result k.skip_word-word.ensures (not-false _ k.if-not-word.false)).0
-
-  abbrev value : ℕ
-  value = found.0
-
-  abbrev mark : ℕ
-  mark = k.skip_space-next.result
+  found : (n : ℕ) × (read_word text ≡ some (n, k.in_ok-skip_word.field-0.now))
+  found = rest_got (read_word text) k.in_ok-skip_word.field-0.now k.in_ok-skip_word.ensures
 
   abbrev more : List ℕ
-  more = k.loop-word.invariant.2.0 ++ (value ∷ [])
+  more = k.loop-behind.invariant.1.0 ++ (found.0 ∷ [])
 
-  longer : length (k.loop-word.invariant.2.0 ++ (value ∷ [])) ≡ k.loop-word.n + 1
-  longer = omega (arith, length-append k.loop-word.invariant.2.0 (value ∷ []), k.loop-word.invariant.2.1)
+  longer : length (k.loop-behind.invariant.1.0 ++ (found.0 ∷ [])) ≡ k.loop-behind.count + 1
+  longer = omega (arith, length-append k.loop-behind.invariant.1.0 (found.0 ∷ []), k.loop-behind.invariant.1.1)
 
-  -- a byte stands there
-  module _ (less : mark < length k.args.s.now) where
-    here : (c : ℕ) → get_or k.args.s.now mark 0 ≡ c → read_token (c ∷ []) (drop behind k.args.s.now) ≡ some (drop (mark + 1) k.args.s.now)
-    here c e = mark_here c k.args.s.now mark behind less k.skip_space-next.ensures.left e
+pub returns-in_err-skip_word : goal.returns-in_err-skip_word
+returns-in_err-skip_word c =
+    let d = (goal.at.returns-in_err-skip_word c).At-loop-behind in
+    ap read_of c.from_residual.ensures ∙ sym (ap counted (led d none (entries_stop (so_far d) c.loop-behind.left.now (rest_none _ c.in_err-skip_word.ensures))))
 
-    other : (c : ℕ) → (get_or k.args.s.now mark 0 ≡ c → ⊥) → read_token (c ∷ []) (drop behind k.args.s.now) ≡ none
-    other c e = mark_other c k.args.s.now mark behind less k.skip_space-next.ensures.left e
+pub returns-in-93 : goal.returns-in-93
+returns-in-93 c =
+    let d = (goal.at.returns-in-93 c).At-loop-behind in
+    let k = (goal.at.returns-in-93 c).After-skip_space in
+    let mark = mark_here 93 c.in_ok-skip_word.field-0.now c.skip_space.result.now c.skip_space.ensures (omega arith) (omega arith) in
+    (λ i. some (sym (longer k) i, behind_first c.skip_space.result.now))
+    ∙ sym (ap counted (led d _ (entries_close (so_far d) (text k) (found k).0 c.in_ok-skip_word.field-0.now (found k).1 (behind_first c.skip_space.result.now) mark)))
 
-    further : (c : ℕ) → get_or k.args.s.now mark 0 ≡ c → k.loop-word.i < mark + 1
-    further c e = past k.args.s.now (c ∷ []) k.loop-word.i behind (mark + 1) value (omega arith) found.1 (here c e) k.loop-word.invariant.0
+pub loop-behind-smaller : goal.loop-behind-smaller
+loop-behind-smaller c =
+    let k = (goal.at.loop-behind-smaller c).After-skip_space in
+    let mark = mark_here 44 c.in_ok-skip_word.field-0.now c.skip_space.result.now c.skip_space.ensures (omega arith) (omega arith) in
+    past (text k) c.in_ok-skip_word.field-0.now (behind_first c.skip_space.result.now) (44 ∷ []) (found k).0 (omega arith) (found k).1 mark
 
-pub loop-word-init : goal.loop-word-init
-loop-word-init c = (search rules, omega arith, ([], refl, refl))
+pub loop-behind-preserved : goal.loop-behind-preserved
+loop-behind-preserved c =
+    let d = (goal.at.loop-behind-preserved c).At-loop-behind in
+    let k = (goal.at.loop-behind-preserved c).After-skip_space in
+    let t = c.in_ok-skip_word.field-0.now in
+    let u = c.skip_space.result.now in
+    let mark = mark_here 44 t u c.skip_space.ensures (omega arith) (omega arith) in
+    let other = mark_other 93 t u c.skip_space.ensures (omega arith) (λ p. omega arith) in
+    let less = past (text k) t (behind_first u) (44 ∷ []) (found k).0 (omega arith) (found k).1 mark in
+    (omega (arith, less, c.loop-behind.invariant.0), (more k, longer k, led d _ (entries_next (so_far d) (text k) (found k).0 t (found k).1 (behind_first u) other mark)))
 
-pub skip_word-word-requires : goal.skip_word-word-requires
-skip_word-word-requires c = omega arith
-
-pub returns-then-not-word : goal.returns-then-not-word
-returns-then-not-word c =
-    let stop = rest_none _ (not_got _ _ _ c.skip_word-word.ensures (not-true _ c.if-not-word.true)) in
-    got_none _ _ _ (led (goal.at.returns-then-not-word c).At-loop-word none (entries_stop (so_far (goal.at.returns-then-not-word c).At-loop-word) (drop (place (goal.at.returns-then-not-word c).At-loop-word) (text (goal.at.returns-then-not-word c).At-loop-word)) stop)) c.none_counted.ensures
-
-pub skip_space-next-requires : goal.skip_space-next-requires
-skip_space-next-requires c =
-    (place_got (text (goal.at.skip_space-next-requires c).At-loop-word) (rest_of (read_word (drop (place (goal.at.skip_space-next-requires c).At-loop-word) (text (goal.at.skip_space-next-requires c).At-loop-word)))) c.skip_word-word.result c.skip_word-word.ensures (not-false _ c.if-not-word.false)).1
-
-pub returns-then-next-s : goal.returns-then-next-s
-returns-then-next-s c =
-    let all : length (text (goal.at.returns-then-next-s c).At-loop-word) ≤ mark (goal.at.returns-then-next-s c).After-skip_space-next = omega (arith, c.if-next-s.true) in
-    let ended : (b : ℕ) → read_token (b ∷ []) (drop (behind (goal.at.returns-then-next-s c).After-skip_space-next) (text (goal.at.returns-then-next-s c).At-loop-word)) ≡ none =
-    λ b. mark_end b (drop (behind (goal.at.returns-then-next-s c).After-skip_space-next) (text (goal.at.returns-then-next-s c).At-loop-word)) _ (sym c.skip_space-next.ensures.left) (none_left (text (goal.at.returns-then-next-s c).At-loop-word) (mark (goal.at.returns-then-next-s c).After-skip_space-next) all) in
-    got_none _ _ _ (led (goal.at.returns-then-next-s c).At-loop-word none (entries_open (so_far (goal.at.returns-then-next-s c).At-loop-word) (drop (place (goal.at.returns-then-next-s c).At-loop-word) (text (goal.at.returns-then-next-s c).At-loop-word)) (value (goal.at.returns-then-next-s c).After-skip_space-next) (drop (behind (goal.at.returns-then-next-s c).After-skip_space-next) (text (goal.at.returns-then-next-s c).At-loop-word)) (found (goal.at.returns-then-next-s c).After-skip_space-next).1 (ended 93) (ended 44))) c.none_counted-then-next-s.ensures
-
-pub returns-then-s-next-eq93 : goal.returns-then-s-next-eq93
-returns-then-s-next-eq93 c =
-    let less : mark (goal.at.returns-then-s-next-eq93 c).After-skip_space-next < length (text (goal.at.returns-then-s-next-eq93 c).At-loop-word) = search rules in
-    let within : mark (goal.at.returns-then-s-next-eq93 c).After-skip_space-next + 1 ≤ length (text (goal.at.returns-then-s-next-eq93 c).At-loop-word) = omega arith in
-    count_is (text (goal.at.returns-then-s-next-eq93 c).At-loop-word) (more (goal.at.returns-then-s-next-eq93 c).After-skip_space-next) _ _ (led (goal.at.returns-then-s-next-eq93 c).At-loop-word _ (entries_close (so_far (goal.at.returns-then-s-next-eq93 c).At-loop-word) (drop (place (goal.at.returns-then-s-next-eq93 c).At-loop-word) (text (goal.at.returns-then-s-next-eq93 c).At-loop-word)) (value (goal.at.returns-then-s-next-eq93 c).After-skip_space-next) (drop (behind (goal.at.returns-then-s-next-eq93 c).After-skip_space-next) (text (goal.at.returns-then-s-next-eq93 c).At-loop-word)) (found (goal.at.returns-then-s-next-eq93 c).After-skip_space-next).1 _ (here (goal.at.returns-then-s-next-eq93 c).After-skip_space-next less 93 c.if-s-next-eq93.true))) refl (sym (longer (goal.at.returns-then-s-next-eq93 c).After-skip_space-next)) within
-
-pub returns-then-s-next-ne44 : goal.returns-then-s-next-ne44
-returns-then-s-next-ne44 c =
-    let less : mark (goal.at.returns-then-s-next-ne44 c).After-skip_space-next < length (text (goal.at.returns-then-s-next-ne44 c).At-loop-word) = search rules in
-    got_none _ _ _
-    (led (goal.at.returns-then-s-next-ne44 c).At-loop-word none (entries_open (so_far (goal.at.returns-then-s-next-ne44 c).At-loop-word) (drop (place (goal.at.returns-then-s-next-ne44 c).At-loop-word) (text (goal.at.returns-then-s-next-ne44 c).At-loop-word)) (value (goal.at.returns-then-s-next-ne44 c).After-skip_space-next) (drop (behind (goal.at.returns-then-s-next-ne44 c).After-skip_space-next) (text (goal.at.returns-then-s-next-ne44 c).At-loop-word)) (found (goal.at.returns-then-s-next-ne44 c).After-skip_space-next).1 (other (goal.at.returns-then-s-next-ne44 c).After-skip_space-next less 93 c.if-s-next-eq93.false) (other (goal.at.returns-then-s-next-ne44 c).After-skip_space-next less 44 c.if-s-next-ne44.true)))
-    c.none_counted-then-s-next-ne44.ensures
-
-pub loop-word-smaller : goal.loop-word-smaller
-loop-word-smaller c =
-    let less : mark (goal.at.loop-word-smaller c).After-skip_space-next < length (text (goal.at.loop-word-smaller c).At-loop-word) = search rules in
-    let far = further (goal.at.loop-word-smaller c).After-skip_space-next less 44 c.if-s-next-ne44.false in
-    omega arith
-
-pub loop-word-preserved : goal.loop-word-preserved
-loop-word-preserved c =
-    let less : mark (goal.at.loop-word-preserved c).After-skip_space-next < length (text (goal.at.loop-word-preserved c).At-loop-word) = search rules in
-    let far = further (goal.at.loop-word-preserved c).After-skip_space-next less 44 c.if-s-next-ne44.false in
-    let next = entries_next (so_far (goal.at.loop-word-preserved c).At-loop-word) (drop (place (goal.at.loop-word-preserved c).At-loop-word) (text (goal.at.loop-word-preserved c).At-loop-word)) (value (goal.at.loop-word-preserved c).After-skip_space-next) (drop (behind (goal.at.loop-word-preserved c).After-skip_space-next) (text (goal.at.loop-word-preserved c).At-loop-word)) (found (goal.at.loop-word-preserved c).After-skip_space-next).1 _ (other (goal.at.loop-word-preserved c).After-skip_space-next less 93 c.if-s-next-eq93.false) (here (goal.at.loop-word-preserved c).After-skip_space-next less 44 c.if-s-next-ne44.false) in
-    (omega arith, omega arith, (more (goal.at.loop-word-preserved c).After-skip_space-next, longer (goal.at.loop-word-preserved c).After-skip_space-next, led (goal.at.loop-word-preserved c).At-loop-word _ next))
+pub returns-in_default : goal.returns-in_default
+returns-in_default c =
+    let d = (goal.at.returns-in_default c).At-loop-behind in
+    let k = (goal.at.returns-in_default c).After-skip_space in
+    let t = c.in_ok-skip_word.field-0.now in
+    let u = c.skip_space.result.now in
+    let stuck : read_token (93 ∷ []) t ≡ none → read_token (44 ∷ []) t ≡ none → none ≡ counted (entries_from [] c.args.s.now) =
+    λ x y. sym (ap counted (led d none (entries_open (so_far d) (text k) (found k).0 t (found k).1 x y))) in
+    elim c.in_default.branch [
+      | in_default-via-then-skip_space-lt1 w ↦
+          let none-left : length u < 1 = search rules in
+          stuck (mark_end 93 t u c.skip_space.ensures none-left) (mark_end 44 t u c.skip_space.ensures none-left)
+      | in_default-via-else-skip_space-lt1+in_default-1 w ↦
+          let some_byte : 1 ≤ length u = search rules in
+          let no_close : slice_index_or u 0 0 ≡ 93 → ⊥ = search rules in
+          let no_comma : slice_index_or u 0 0 ≡ 44 → ⊥ = search rules in
+          stuck (mark_other 93 t u c.skip_space.ensures some_byte no_close) (mark_other 44 t u c.skip_space.ensures some_byte no_comma)
+    ]

@@ -1,20 +1,14 @@
--- `arrays::store_entries` meets its contract. The loop's invariant: the first n numbers are stored, and from place i on the others are read.
-use mathlib.Core.Path.{◌≡◌}
-use mathlib.Core.List.{List}
-use mathlib.Core.Option.{some}
-use Prim.Native.Nat.{ℕ, ◌-◌, ◌≤◌, ◌<◌}
-use lib.ListN.{length, take, drop}
-use Rattle.exchange.specs.Cursor.{numbers_in}
+-- `arrays::store_entries` meets its contract. The loop's invariant: the first numbers are stored, and the others are read of what is left.
+use Rattle.std.proofs.Common.{◌≡◌, ℕ, ◌<◌, List, length, take}
+use Rattle.std.proofs.Math.Option.{some}
+use Rattle.exchange.specs.Arrays.{numbers_in}
 use Rattle.exchange.proofs.Turning.{entries_from}
 use Rattle.exchange.proofs.arrays.store_entries.Given as goal
 
--- from place i on the numbers past the first n are read
-abbrev pub Left : List ℕ → List ℕ → ℕ → ℕ → Type 0
-Left s ns n i = (i ≤ length s) × ((t : List ℕ) × (entries_from (take n ns) (drop i s) ≡ some (ns, t)))
+-- the numbers ns past the first n are read of the bytes s
+abbrev pub Left : List ℕ → List ℕ → ℕ → Type 0
+Left s ns n = (t : List ℕ) × (entries_from (take n ns) s ≡ some (ns, t))
 
-abbrev pub invariant-loop-n : goal.invariant-loop-n
-invariant-loop-n l =
-    (l.n ≤ length l.to) × (length l.to ≡ length l.initial.to) × (take l.n l.to ≡ take l.n (numbers_in (drop l.from l.s))) × (l.n < length l.to → Left l.s (numbers_in (drop l.from l.s)) l.n l.i)
-
-abbrev pub decreases-loop-n : goal.decreases-loop-n
-decreases-loop-n l = length l.to - l.n
+abbrev pub invariant-loop-entry : goal.invariant-loop-entry
+invariant-loop-entry l =
+    (take l.entry-index l.to ≡ take l.entry-index (numbers_in l.s)) × (l.entry-index < length l.to → Left l.left (numbers_in l.s) l.entry-index)

@@ -1,13 +1,9 @@
 -- `cursor::token` meets its contract, by what its steps promise.
-use mathlib.Core.Path.{subst}
-use mathlib.Core.List.{List}
-use Prim.Native.Nat.{ℕ}
+use Rattle.std.proofs.Common.{ap, ◌∙◌}
 use Rattle.exchange.specs.Reader.{read_exactly, read_token}
-use Rattle.exchange.specs.Cursor.{PlaceIs}
+use Rattle.exchange.proofs.Stepping.{taken_off}
 use Rattle.exchange.proofs.cursor.token.Goals as goal
 
 pub returns : goal.returns
 unfolding read_token
-returns c =
-    let a = c.args in
-    subst (λ (t : List ℕ). PlaceIs a.s.now (read_exactly a.k.now t) c.exactly.result) c.skip_space-start.ensures.left c.exactly.ensures
+returns c = taken_off _ c.args.k.now c.skip_space.result.now c.strip_prefix.result c.strip_prefix.ensures.cases ∙ ap (read_exactly c.args.k.now) c.skip_space.ensures

@@ -1,44 +1,7 @@
--- `words::skip_more` meets its contract: what is left leads where all leads, whatever number the digits make.
-use borrow.Author.Rules.{rules}
-use mathlib.Core.Path.{refl, sym, ◌∙◌}
-use Prim.Native.Nat.{ℕ, ◌≤◌, ◌<◌}
-use native.Mathlib.Omega.{arith}
-use lib.ListN.{length}
-use Rattle.exchange.proofs.Scoring.{rest_here, rest_next, rest_end}
+-- `words::skip_more` meets its contract: what is left leads where all leads, whatever the number so far.
+use Rattle.std.proofs.Common.{sym, ◌∙◌, arith}
+use Rattle.exchange.proofs.Stepping.{digit_next}
 use Rattle.exchange.proofs.words.skip_more.Goals as goal
 
-pub loop-i-init : goal.loop-i-init
-loop-i-init c = (search rules, refl)
-
-pub bounds-s-i : goal.bounds-s-i
-bounds-s-i c = omega arith
-
-pub returns-then-not-is_digit : goal.returns-then-not-is_digit
-returns-then-not-is_digit c =
-    let s = c.args.s.now in
-    let i : ℕ = c.loop-i.i in
-    let less : i < length s = omega arith in
-    record {
-      within = omega arith;
-      left = rest_here s i less (sym c.is_digit.ensures ∙ c.if-not-is_digit.true) ∙ c.loop-i.invariant.1;
-    }
-
-pub overflow_add-i : goal.overflow_add-i
-overflow_add-i c = omega arith
-
-pub loop-i-smaller : goal.loop-i-smaller
-loop-i-smaller c = omega arith
-
-pub loop-i-preserved : goal.loop-i-preserved
-loop-i-preserved c =
-    let s = c.args.s.now in
-    let i : ℕ = c.loop-i.i in
-    let less : i < length s = omega arith in
-    (omega arith, rest_next s i less (sym c.is_digit.ensures ∙ c.if-not-is_digit.false) ∙ c.loop-i.invariant.1)
-
-pub returns : goal.returns
-returns c =
-    let s = c.args.s.now in
-    let i : ℕ = c.loop-i.i in
-    let all : length s ≤ i = omega arith in
-    record { within = omega arith; left = rest_end s i all ∙ c.loop-i.invariant.1 }
+pub loop-left-preserved : goal.loop-left-preserved
+loop-left-preserved c = digit_next c.loop-left.left.now (omega arith) (sym c.is_digit.ensures ∙ c.if-is_digit.true) ∙ c.loop-left.invariant
