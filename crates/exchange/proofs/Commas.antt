@@ -1,15 +1,17 @@
 -- Laws of numbers with commas between them: how long they are, and one more of them put into a buffer.
 use mathlib.Core.Path.{◌≡◌, refl, ap, ◌∙◌}
 use mathlib.Core.List.{List, [], ◌∷◌, ◌++◌}
-use Prim.Native.Nat.{ℕ, suc, ◌+◌, ◌*◌, ◌≤◌, ◌<◌}
+use Prim.Native.Nat.{ℕ, suc, ◌+◌, ◌-◌, ◌*◌, ◌≤◌, ◌<◌}
 use native.Mathlib.Nat.{suc-mul}
 use native.Mathlib.Numerals.{add-one}
 use native.Mathlib.Omega.{arith}
 use lib.ListN.{length, get_or, drop, set, length-append}
 use lib.Seq.{drop-cons, drop-length}
+use Rattle.std.specs.Prelude.{slice_index_or}
 use Rattle.counting.specs.Buffer.{put}
 use Rattle.exchange.specs.Writer.{decimal, behind, listed}
 use Rattle.counting.proofs.Buffers.{put_put}
+use Rattle.exchange.proofs.Stepping.{behind_first, front}
 use Rattle.exchange.proofs.Figures.{put_one, digits_ten}
 
 -- ---- what is left of the numbers from place i on
@@ -22,10 +24,13 @@ pub behind_none : (ns : List ℕ) (i : ℕ) → i ≡ length ns → behind (drop
 unfolding behind
 behind_none ns i e = rw (e, drop-length ns)
 
-pub listed_first : (ns : List ℕ) → 0 < length ns → listed ns ≡ decimal (get_or ns 0 0) ++ behind (drop 1 ns)
+pub listed_first : (ns : List ℕ) → 1 ≤ length ns → listed ns ≡ decimal (slice_index_or ns 0 0) ++ behind (behind_first ns)
 unfolding listed
 listed_first [] h = absurd (omega arith)
-listed_first (n ∷ ns) h = refl
+listed_first (n ∷ ns) h =
+    let same : n ∷ ns ≡ n ∷ behind_first (n ∷ ns) = front (n ∷ ns) h in
+    let rest : ns ≡ behind_first (n ∷ ns) = cc in
+    ap (λ (ms : List ℕ). decimal n ++ behind ms) rest
 
 pub listed_none : (ns : List ℕ) → length ns ≡ 0 → listed ns ≡ []
 unfolding listed
@@ -48,6 +53,11 @@ length_listed (n ∷ ns) h =
     let a : length (decimal n ++ behind ns) ≡ length (decimal n) + length (behind ns) = length-append (decimal n) (behind ns) in
     let b : length ((44 ∷ []) ++ decimal n ++ behind ns) ≡ length ((44 ∷ []) ++ decimal n) + length (behind ns) = length-append ((44 ∷ []) ++ decimal n) (behind ns) in
     omega (arith, a, b, length-append (44 ∷ []) (decimal n))
+
+pub length_first : (ns : List ℕ) → length ns - 1 + length (behind ns) ≡ length (listed ns) + length ns
+unfolding listed behind
+length_first [] = refl
+length_first (n ∷ ns) = omega (arith, length_listed (n ∷ ns) (omega arith))
 
 -- numbers of at most d digits
 pub behind_most : (d : ℕ) (ns : List ℕ) → ((i : ℕ) → i < length ns → length (decimal (get_or ns i 0)) ≤ d) → length (behind ns) ≤ length ns * (d + 1)

@@ -1,31 +1,33 @@
 // Decimal numbers without leading zeros, written into a buffer.
-ghost use Rattle.std.specs.Prelude.{◌≡◌, cond, ◌+◌, ◌≤◌, ◌<◌, leb, length};
+ghost use Rattle.std.specs.Prelude.{◌≡◌, ◌+◌, ◌≤◌, ◌<◌, leb, length, count_by};
 ghost use Rattle.counting.specs.Buffer.{put};
-ghost use Rattle.exchange.specs.Writer.{places, decimal, listed};
+ghost use Rattle.exchange.specs.Writer.{places, decimal, behind, listed};
 
-// How many digits a number has: one, and one more for each power of ten up to it. Without branches, so that many numbers are counted at a time.
+// The powers of ten that 32 bits hold, but for 1.
+const POWERS: [u32; 9] = [
+    10,
+    100,
+    1_000,
+    10_000,
+    100_000,
+    1_000_000,
+    10_000_000,
+    100_000_000,
+    1_000_000_000,
+];
+
+// How many digits a number has: one, and one more for each power of ten up to it.
 pub fn digits(n: u32) -> usize
     ensures { result ≡ length (decimal n) }
 {
-    let mut count: u32 = 1;
-    let mut power: u32 = 1;
-    let mut i: usize = 0;
-    while i < 9 {
-        power *= 10;
-        count += reaches(n, power);
-        i += 1;
-    }
-    count as usize
+    1 + reached(&POWERS, n)
 }
 
-// 1 where n is m or more, else 0.
-fn reaches(n: u32, m: u32) -> u32
-    ensures { result ≡ cond (leb m n) 1 0 }
+// How many of these powers a number reaches.
+fn reached(powers: &[u32], n: u32) -> usize
+    ensures { result ≡ count_by (λ p. leb p n) powers.now }
 {
-    if n < m {
-        return 0;
-    }
-    1
+    powers.iter().filter(|power| **power <= n).count()
 }
 
 // How long numbers with commas between them are.
@@ -33,14 +35,9 @@ pub fn listed_length(ns: &[u32]) -> usize
     requires { length ns.now ≤ 1048576 }
     ensures { result ≡ length (listed ns.now) }
 {
-    if ns.len() == 0 {
-        return 0;
-    }
-    let mut sum = ns.len() - 1;
-    let mut i: usize = 0;
-    while i < ns.len() {
-        sum += digits(ns[i]);
-        i += 1;
+    let mut sum = ns.len().saturating_sub(1);
+    for n in ns {
+        sum += digits(*n);
     }
     sum
 }
@@ -113,7 +110,7 @@ fn digit(n: u32) -> u8
     requires { n < 10 }
     ensures { result ≡ 48 + n }
 {
-    48 + n as u8
+    b'0' + n as u8
 }
 
 // Writes numbers with commas between them.
@@ -122,15 +119,23 @@ pub fn put_listed(out: &mut [u8], at: usize, ns: &[u32]) -> usize
     ensures value { result ≡ at + length (listed ns.now) }
     ensures out_after { out.new ≡ put out.old at (listed ns.now) }
 {
-    if ns.len() == 0 {
+    let [first, others @ ..] = ns else {
         return at;
-    }
-    let mut to = put_decimal(out, at, ns[0]);
-    let mut i: usize = 1;
-    while i < ns.len() {
+    };
+    let to = put_decimal(out, at, *first);
+    put_behind(out, to, others)
+}
+
+// Writes numbers behind another, a comma before each.
+fn put_behind(out: &mut [u8], at: usize, ns: &[u32]) -> usize
+    requires { at + length (behind ns.now) ≤ length out.old }
+    ensures value { result ≡ at + length (behind ns.now) }
+    ensures out_after { out.new ≡ put out.old at (behind ns.now) }
+{
+    let mut to = at;
+    for n in ns {
         out[to] = b',';
-        to = put_decimal(out, to + 1, ns[i]);
-        i += 1;
+        to = put_decimal(out, to + 1, *n);
     }
     to
 }

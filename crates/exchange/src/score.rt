@@ -4,7 +4,7 @@ ghost use Rattle.exchange.specs.Reader.{skip_digits, skip_minus, skip_sign, read
 ghost use Rattle.exchange.specs.Cursor.{left_of, rest_of};
 
 use crate::cursor::skip_space;
-use crate::words::{is_digit, skip_more};
+use crate::words::{digit_first, skip_more};
 
 // A number of any kind, white space before it.
 #[tactic(auto, unfolding(crate::specs::Reader::skip_score))]
@@ -51,9 +51,10 @@ fn skip_whole(s: &[u8]) -> Option<&[u8]>
 fn skip_digits(s: &[u8]) -> Option<&[u8]>
     ensures { left_of result ≡ skip_digits s.now }
 {
-    match s {
-        [c, ..] if is_digit(*c) => Some(skip_more(s)),
-        _ => None,
+    if digit_first(s) {
+        Some(skip_more(s))
+    } else {
+        None
     }
 }
 

@@ -1,18 +1,9 @@
 // Whole numbers that 32 bits hold.
 ghost use Rattle.std.specs.Prelude.{◌≡◌, ◌≤◌};
-ghost use Rattle.exchange.specs.Grammar.{is_digit};
 ghost use Rattle.exchange.specs.Reader.{read_digits, read_word, held};
 ghost use Rattle.exchange.specs.Cursor.{digit_first, left_of, read_of, rest_of};
 
 use crate::cursor::skip_space;
-
-// '0' to '9'.
-#[tactic(auto, unfolding(crate::specs::Grammar::is_digit))]
-pub fn is_digit(c: u8) -> bool
-    ensures { result ≡ is_digit c }
-{
-    matches!(c, b'0'..=b'9')
-}
 
 // A whole number that 32 bits hold, white space before it.
 #[tactic(auto, unfolding(crate::specs::Reader::read_word, crate::specs::Reader::read_whole, crate::specs::Grammar::is_digit))]
@@ -27,14 +18,12 @@ pub fn read_word(s: &[u8]) -> Option<(u32, &[u8])>
 }
 
 // The bytes behind the digits that stand first.
-#[tactic(auto, unfolding(crate::specs::Reader::read_digits))]
+#[tactic(auto, unfolding(crate::specs::Reader::read_digits, crate::specs::Grammar::is_digit))]
 pub fn skip_more(s: &[u8]) -> &[u8]
     ensures { result.now ≡ (read_digits 0 s.now).1 }
 {
     let mut left = s;
-    while let [c, more @ ..] = left
-        && is_digit(*c)
-    {
+    while let [b'0'..=b'9', more @ ..] = left {
         left = more;
     }
     left
@@ -77,7 +66,7 @@ pub fn skip_word(s: &[u8]) -> Option<&[u8]>
 
 // Whether a digit stands first.
 #[tactic(auto, unfolding(crate::specs::Grammar::is_digit))]
-fn digit_first(s: &[u8]) -> bool
+pub fn digit_first(s: &[u8]) -> bool
     ensures { result ≡ digit_first s.now }
 {
     matches!(s, [b'0'..=b'9', ..])

@@ -49,10 +49,7 @@ fn has_room(finding: Finding, order: &[u32], room: usize) -> bool
     requires { Writable finding order.now }
     ensures { result ≡ leb (length (finding_text finding order.now)) room }
 {
-    if longest_text(finding.width) <= room {
-        return true;
-    }
-    text_length(finding, order) <= room
+    longest_text(finding.width) <= room || text_length(finding, order) <= room
 }
 
 // How long the text of an accepted finding of width k can be; 0 where k is no width.
@@ -83,10 +80,7 @@ fn text_length(finding: Finding, order: &[u32]) -> usize
 fn truth_length(value: bool) -> usize
     ensures { result ≡ length (truth value) }
 {
-    if value {
-        return 4;
-    }
-    5
+    if value { 4 } else { 5 }
 }
 
 // Writes the text to the front of a buffer with room for it; answers its length.
@@ -139,22 +133,29 @@ fn put_low(out: &mut [u8], at: usize, low_first: bool) -> usize
     ensures value { result ≡ at + length (low_text low_first) }
     ensures out_after { out.new ≡ put out.old at (low_text low_first) }
 {
+    put_bytes(out, at, low_text(low_first))
+}
+
+// They are one of two.
+#[tactic(auto, unfolding(crate::specs::Writer::low_text))]
+fn low_text(low_first: bool) -> &'static [u8]
+    ensures { result.now ≡ low_text low_first }
+{
     if low_first {
-        return put_bytes(out, at, b",\"low_first\":true}");
+        b",\"low_first\":true}"
+    } else {
+        b",\"low_first\":false}"
     }
-    put_bytes(out, at, b",\"low_first\":false}")
 }
 
 // Writes bytes from place `at` on; answers the place behind them.
+#[tactic(auto, unfolding(counting::specs::Buffer::put))]
 fn put_bytes(out: &mut [u8], at: usize, bytes: &[u8]) -> usize
     requires { at + length bytes.now ≤ length out.old }
     ensures value { result ≡ at + length bytes.now }
     ensures out_after { out.new ≡ put out.old at bytes.now }
 {
-    let mut i: usize = 0;
-    while i < bytes.len() {
-        out[at + i] = bytes[i];
-        i += 1;
-    }
-    at + i
+    let to = at + bytes.len();
+    out[at..to].copy_from_slice(bytes);
+    to
 }

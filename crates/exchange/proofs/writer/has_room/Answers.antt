@@ -1,9 +1,8 @@
 -- `writer::has_room` meets its contract: no text of the width is longer than the longest.
 use borrow.Author.Rules.{rules}
-use Prim.Native.Nat.{ℕ, ◌≤◌}
-use mathlib.Core.Path.{◌≡◌, sym, ap}
+use Prim.Native.Nat.{◌≤◌}
+use mathlib.Core.Path.{◌≡◌, sym, ◌∙◌}
 use native.Mathlib.Omega.{arith}
-use lib.Dec.{leb}
 use lib.ListN.{length}
 use borrow.Author.Tests.{le-leb}
 use Rattle.exchange.specs.Exchange.{finding_text}
@@ -19,7 +18,4 @@ returns-then-longest_text-room c =
     let a = c.args in
     let most = writable_fits a.finding a.order.now (size (goal.at.returns-then-longest_text-room c).Start) c.requires in
     let room : length (finding_text a.finding a.order.now) ≤ a.room = omega (arith, most, c.longest_text.ensures, c.if-longest_text-room.true) in
-    sym (le-leb _ _ room)
-
-pub returns : goal.returns
-returns c = let a = c.args in ap (λ (m : ℕ). leb m a.room) c.text_length.ensures
+    le-leb _ _ c.if-longest_text-room.true ∙ sym (le-leb _ _ room)
