@@ -16,10 +16,9 @@ use Rattle.judging.specs.Check.{chosen, shape_refusal, early_check_refusal, chec
 use Rattle.judging.proofs.Checking.{shaped, ordered}
 use Rattle.judging.proofs.Once.{once_permutes}
 use Rattle.judging.proofs.Tallying.{bin_below}
-use Rattle.exchange.specs.declared.writer.Written.{Written}
 use Rattle.counting.specs.Buffer.{put}
 use Rattle.exchange.specs.Writer.{Fits, Writable}
-use Rattle.exchange.specs.Exchange.{room_refusal, exchanged_of, finding_text, write_refusal, written_with, output_after, Writes}
+use Rattle.exchange.specs.Exchange.{room_refusal, exchanged_of, finding_text, write_refusal, written_with, output_after, Writes, Written}
 use Rattle.counting.proofs.Buffers.{put_first}
 
 -- ---- what an accepted finding's numbers are

@@ -25,10 +25,9 @@ use Rattle.judging.proofs.Checking.{chosen_length}
 use Rattle.exchange.specs.Grammar.{Exchanged}
 use Rattle.exchange.specs.Reader.{read_text}
 use Rattle.exchange.specs.Writer.{Writable}
-use Rattle.exchange.specs.Exchange.{room_refusal, begun, exchanged_of, finding_text, write_refusal, written_with, output_after, said_finding, said_refusal, reading_with, reading_of, read_order}
+use Rattle.exchange.specs.Exchange.{room_refusal, begun, exchanged_of, finding_text, write_refusal, written_with, output_after, said_finding, said_refusal, reading_with, reading_of, read_order, Written}
 use Rattle.exchange.specs.Length.{longest_text}
 use Rattle.exchange.specs.Theorems.{ReaderAgrees, bare, RoundTrip, AcceptedWritten, scoreless, Passes, SearchesExchange}
-use Rattle.exchange.specs.declared.writer.Written.{Written}
 use Rattle.exchange.proofs.Objects.{text_sound, text_complete, text_unique}
 use Rattle.exchange.proofs.Written.{text_back}
 use Rattle.exchange.proofs.Acceptance.{accepted, accepted_fits, refused_not}

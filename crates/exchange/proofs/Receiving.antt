@@ -15,8 +15,7 @@ use Rattle.searching.specs.declared.finding.Finding.{Finding}
 use Rattle.judging.specs.Check.{check_refusal, checked_scratch}
 use Rattle.exchange.specs.Grammar.{Exchanged}
 use Rattle.exchange.specs.Reader.{read_text}
-use Rattle.exchange.specs.Exchange.{room_refusal, begun, said_finding, said_refusal, reading_with, Reads}
-use Rattle.exchange.specs.declared.reader.Reading.{Reading}
+use Rattle.exchange.specs.Exchange.{room_refusal, begun, said_finding, said_refusal, reading_with, Reads, Reading}
 
 -- ---- bits, in an array of twenty
 
@@ -75,6 +74,3 @@ module _ (text order scratch : List ℕ) (r : Reading) where
 pub with_refusal : (q : ℕ) (f : Finding) (r : Reading) → (q ≡ 0 → ⊥) → r ≡ record { refusal = q; finding = no_finding } → r ≡ reading_with q f
 with_refusal zero f r h e = absurd (h refl)
 with_refusal (suc q) f r h e = e
-
-pub with_none : (q : ℕ) (f : Finding) (r : Reading) → q ≡ 0 → r ≡ record { refusal = 0; finding = f } → r ≡ reading_with q f
-with_none q f r h e = rw h e

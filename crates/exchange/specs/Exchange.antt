@@ -1,6 +1,8 @@
 -- A finding and its order as text: what the two calls answer and leave.
-use Rattle.std.specs.Prelude.{◌≡◌, cond, List, ◌++◌, ℕ, zero, suc, leb, length, take, drop}
+use Rattle.std.specs.Prelude.{◌≡◌, cond, List, ◌++◌, ℕ, zero, suc, leb, length, take, drop, Result, Ok, Err}
 use Rattle.std.proofs.Math.Option.{Option, none, some}
+use Rattle.counting.specs.Refusal.{number_of}
+use Rattle.counting.specs.declared.refusal.Refusal.{Refusal}
 use Rattle.subsets.specs.Subsets.{padded}
 use Rattle.ranking.specs.Ranking.{zero_score}
 use Rattle.searching.specs.Refusal.{or_else}
@@ -10,8 +12,6 @@ use Rattle.judging.specs.Check.{chosen, check_refusal, checked_scratch}
 use Rattle.exchange.specs.Grammar.{Exchanged}
 use Rattle.exchange.specs.Reader.{read_text}
 use Rattle.exchange.specs.Writer.{text_of}
-use Rattle.exchange.specs.declared.reader.Reading.{Reading}
-use Rattle.exchange.specs.declared.writer.Written.{Written}
 
 -- 17: `need` entries do not fit a buffer of `room`
 unfoldable pub room_refusal : ℕ → ℕ → ℕ
@@ -34,6 +34,16 @@ finding_text f order = text_of (exchanged_of f order)
 -- the check's refusals, then 17
 unfoldable pub write_refusal : Finding → List ℕ → ℕ → ℕ → ℕ
 write_refusal f order scratch out = or_else (check_refusal f order scratch) (room_refusal (length (finding_text f order)) out)
+
+-- what a writing answers: a refusal, 0 where there is none, and the length of the text that was written
+pub record Written : Type 0 where
+  pub refusal : ℕ
+  pub length : ℕ
+
+-- .. of a call's answer: the length is 0 beside a refusal
+abbrev pub as_written : Result ℕ Refusal → Written
+as_written (Ok n) = record { refusal = 0; length = n }
+as_written (Err r) = record { refusal = number_of r; length = 0 }
 
 -- the refusal r, and the length of the text s; 0 where refused
 abbrev pub written_with : ℕ → List ℕ → Written
@@ -61,6 +71,16 @@ said_finding e =
 -- of what a text says, the order buffer having `room` entries: 17, then the check's refusals
 unfoldable pub said_refusal : Exchanged → ℕ → ℕ → ℕ
 said_refusal e room scratch = or_else (room_refusal (length e.indices) room) (check_refusal (said_finding e) e.indices scratch)
+
+-- what a reading answers: a refusal, 0 where there is none, and the finding that was read
+pub record Reading : Type 0 where
+  pub refusal : ℕ
+  pub finding : Finding
+
+-- .. of a call's answer: every field of the finding is 0 beside a refusal
+abbrev pub as_reading : Result Finding Refusal → Reading
+as_reading (Ok f) = record { refusal = 0; finding = f }
+as_reading (Err r) = record { refusal = number_of r; finding = no_finding }
 
 -- the finding after the refusal r: every field 0 where refused
 abbrev pub reading_with : ℕ → Finding → Reading

@@ -7,15 +7,13 @@ use Rattle.subsets.specs.Subsets.{padded}
 use Rattle.ranking.specs.Ranking.{zero_score}
 use Rattle.searching.specs.Claim.{Acquisition}
 use Rattle.searching.specs.Search.{BottomupSearch}
+use Rattle.searching.specs.Finding.{Searched}
 use Rattle.searching.specs.declared.finding.Finding.{Finding}
-use Rattle.searching.specs.declared.finding.Searched.{Searched}
 use Rattle.judging.specs.Check.{chosen, check_refusal}
 use Rattle.exchange.specs.Grammar.{Exchanged, Text}
 use Rattle.exchange.specs.Reader.{read_text}
-use Rattle.exchange.specs.Exchange.{begun, Writes, Reads}
+use Rattle.exchange.specs.Exchange.{begun, Written, Writes, Reading, Reads}
 use Rattle.exchange.specs.Length.{longest_text}
-use Rattle.exchange.specs.declared.reader.Reading.{Reading}
-use Rattle.exchange.specs.declared.writer.Written.{Written}
 
 -- Theorem: what is read of a text is what the grammar says of it, and the grammar says one thing at most.
 pub record ReaderAgrees : Type 0 where

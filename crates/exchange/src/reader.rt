@@ -1,55 +1,31 @@
 // Reading a finding and its order.
 ghost use Rattle.std.specs.Prelude.{◌≡◌, take};
 ghost use Rattle.subsets.specs.Subsets.{padded};
-ghost use Rattle.searching.specs.Finding.{no_finding};
 ghost use Rattle.exchange.specs.Cursor.{numbers_of, exchanged_in};
-ghost use Rattle.exchange.specs.Exchange.{said_finding, Reads};
+ghost use Rattle.exchange.specs.Exchange.{said_finding, as_reading, Reads};
 
 use crate::arrays::store_entries;
 use crate::listed::Listed;
 use crate::text::{Said, read_text};
+use counting::refusal::Refusal;
 use judging::check::validate;
 use searching::finding::Finding;
 
-// A refusal, 0 where there is none, and the finding that was read.
-#[derive(Clone, Copy)]
-pub struct Reading {
-    pub refusal: u32,
-    pub finding: Finding,
-}
-
 // Reads a text: 16 where it is none, 17 where the order has no room for its indices, then the check's refusals.
 // After 16 and 17 everything is as lent; else the order begins with the indices, and the scratch is as the check leaves it.
-pub fn read_finding(text: &[u8], order: &mut [u32], scratch: &mut [u32]) -> Reading
-    ensures { Reads text.now order.old scratch.old result order.new scratch.new }
+pub fn read_finding(text: &[u8], order: &mut [u32], scratch: &mut [u32]) -> Result<Finding, Refusal>
+    ensures { Reads text.now order.old scratch.old (as_reading result) order.new scratch.new }
 {
-    let Some(said) = read_text(text) else {
-        return refused(16);
-    };
+    let said = read_text(text).ok_or(Refusal::Text)?;
     let indices = said.indices;
     let count = indices.count;
     if order.len() < count {
-        return refused(17);
+        return Err(Refusal::Room);
     }
     store_entries(indices.text, &mut order[..count]);
     let finding = finding_of(said);
-    let refusal = validate(finding, &order[..count], scratch);
-    if refusal != 0 {
-        return refused(refusal);
-    }
-    Reading {
-        refusal: 0,
-        finding,
-    }
-}
-
-// A refusal, and every field of the finding 0.
-fn refused(refusal: u32) -> Reading
-    ensures { result ≡ record { refusal = refusal; finding = no_finding } }
-{
-    let none = searching::finding::refused(refusal);
-    let finding = none.finding;
-    Reading { refusal, finding }
+    validate(finding, &order[..count], scratch)?;
+    Ok(finding)
 }
 
 // The finding of a text that is one: the width is the number of its bits, of which the array has room for twenty.

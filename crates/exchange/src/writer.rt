@@ -1,47 +1,32 @@
 // Writing a finding and its order.
 ghost use Rattle.std.specs.Prelude.{◌≡◌, ◌+◌, ◌≤◌, leb, length};
 ghost use Rattle.counting.specs.Buffer.{put};
-ghost use Rattle.exchange.specs.Exchange.{finding_text, Writes};
+ghost use Rattle.exchange.specs.Exchange.{finding_text, as_written, Writes};
 ghost use Rattle.exchange.specs.Length.{longest_text};
 ghost use Rattle.exchange.specs.Writer.{truth, arrays_text, numbers_text, low_text, Writable};
 
 use crate::decimals::{digits, listed_length, put_decimal, put_listed};
 use counting::block::bin_count;
+use counting::refusal::Refusal;
 use judging::check::validate;
 use searching::finding::Finding;
 use subsets::bits::valid_width;
 
-// A refusal, 0 where there is none, and the length of the text that was written.
-#[derive(Clone, Copy)]
-pub struct Written {
-    pub refusal: u32,
-    pub length: usize,
-}
-
-// Writes a finding and its order: the check's refusals, then 17 where the buffer is too short. The output is as lent where refused; the scratch is as the
-// check leaves it.
+// Writes a finding and its order, and answers the length of the text: the check's refusals, then 17 where the buffer is too short. The output is as lent
+// where refused; the scratch is as the check leaves it.
 pub fn write_finding(
     finding: Finding,
     order: &[u32],
     scratch: &mut [u32],
     out: &mut [u8],
-) -> Written
-    ensures { Writes finding order.now scratch.old out.old result scratch.new out.new }
+) -> Result<usize, Refusal>
+    ensures { Writes finding order.now scratch.old out.old (as_written result) scratch.new out.new }
 {
-    let refusal = validate(finding, order, scratch);
-    if refusal != 0 {
-        return Written { refusal, length: 0 };
-    }
+    validate(finding, order, scratch)?;
     if !has_room(finding, order, out.len()) {
-        return Written {
-            refusal: 17,
-            length: 0,
-        };
+        return Err(Refusal::Room);
     }
-    Written {
-        refusal: 0,
-        length: put_text(finding, order, out),
-    }
+    Ok(put_text(finding, order, out))
 }
 
 // Whether the text fits `room` bytes. Nothing is counted where the longest text of its width fits.
