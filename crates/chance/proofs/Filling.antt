@@ -6,7 +6,8 @@ use native.Mathlib.Omega.{arith}
 use native.Mathlib.Decide.{dec_lt}
 use native.Mathlib.Numerals.{add-one}
 use lib.ListN.{length, get_or, take, drop, set, get_or-append, get_or-eq_default}
-use lib.Seq.{drop-set-lt, take_at, drop-append-add, drop-drop, set_split}
+use Rattle.std.specs.List.{AllWithin}
+use lib.Seq.{drop-set-lt, take_at, drop-append-add, drop-drop, set_split, get_or-take, get_or-drop}
 use Rattle.counting.proofs.Counts.{sum_ext}
 use Rattle.chance.specs.Chance.{sum_from, before}
 use Rattle.chance.specs.Entries.{entry, next_entry, next_row, entries_after}
@@ -112,3 +113,11 @@ module _ (t k d from to from' to' : ℕ) (s₀ s : List ℕ) (is : Filling (t + 
       over : (j : ℕ) → to' ≤ j → Dec (j < to + 1) → entry (entries_after (t + 1) k d) j ≡ 0
       over j h (yes l) = sym (fill_at (t + 1) k d s₀ s is j (omega (arith, z.within))) ∙ high j h l
       over j h (no l) = high_none j (omega arith)
+
+-- zeros of a part of a scratch are zeros of the scratch
+pub none_within : (s : List ℕ) (from to lo hi : ℕ) → hi ≤ to - from → AllWithin (λ x. x ≡ 0) (take (to - from) (drop from s)) lo hi
+    → (j : ℕ) → from + lo ≤ j → j < from + hi → get_or s j 0 ≡ 0
+none_within s from to lo hi room none j a h =
+    let e : from + (j - from) ≡ j = omega arith in
+    ap (λ (i : ℕ). get_or s i 0) (sym e) ∙ sym (get_or-drop from s (j - from) 0) ∙ sym (get_or-take (to - from) (drop from s) (j - from) 0 (omega arith))
+    ∙ none (j - from) 0 (omega arith) (omega arith)

@@ -1,7 +1,7 @@
 -- A row made in place, from the highest entry down: what is above j is made, and the rest is as it was.
 use mathlib.Core.Path.{◌≡◌, refl, sym, ap, ap₂, ◌∙◌}
 use mathlib.Core.List.{List, ◌++◌}
-use Prim.Native.Nat.{ℕ, zero, suc, ◌+◌, ◌-◌, ◌^◌, ◌≤◌, ◌<◌}
+use Prim.Native.Nat.{ℕ, zero, suc, ◌+◌, ◌-◌, ◌≤◌, ◌<◌}
 use native.Mathlib.Omega.{arith}
 use native.Mathlib.Decide.{dec_lt}
 use lib.ListN.{length, get_or, take, drop, set, length-append, length-drop, length-set, get_or-append, get_or-eq_default}
@@ -139,10 +139,3 @@ cleared m from to s row =
   where
     other : (j : ℕ) → j < m → get_or (set s m 0) j 0 ≡ get_or s j 0
     other j h = get_or-set_other s m j 0 0 (λ z. omega arith)
-
-pub cleared_small : (m from to : ℕ) (s : List ℕ) → m < length s → Row m from to s → (u : ℕ) → u ≤ m → get_or (set s m 0) u 0 ≤ 2 ^ 40
-cleared_small m from to s room row u h = go (dec_lt u m)
-  where
-    go : Dec (u < m) → get_or (set s m 0) u 0 ≤ 2 ^ 40
-    go (yes l) = (cleared m from to s row).small u l
-    go (no l) = let e : u ≡ m = omega arith in rw (e, get_or-set_same s m 0 0 room) (omega arith)

@@ -62,13 +62,7 @@ fn sum_from(c: usize, n: usize, scratch: &[u64]) -> u64
     requires by_index { (j : ℕ) → j ≤ n → get_or scratch.now j 0 ≤ 2 ^ 40 }
     ensures { (result ≡ sum_from (entry scratch.now) c n) × (result < 2 ^ 60) }
 {
-    let mut sum: u64 = 0;
-    let mut i = c;
-    while i <= n {
-        sum += scratch[i];
-        i += 1;
-    }
-    sum
+    scratch[c..=n].iter().sum()
 }
 
 // How many divisions n blocks round down.

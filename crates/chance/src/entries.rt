@@ -15,10 +15,8 @@ pub fn entries_after(n: usize, k: usize, d: u64, scratch: &mut [u64])
     scratch[0] = 1099511627776;
     let mut from: usize = 0;
     let mut to: usize = 1;
-    let mut t: usize = 0;
-    while t < n {
-        t += 1;
-        next_row(t, from, to, k, without, d, scratch);
+    for t in 0..n {
+        next_row(t + 1, from, to, k, without, d, scratch);
         from = past_zeros(from, to + 1, scratch);
         to = before_zeros(from, to + 1, scratch);
     }
@@ -31,10 +29,8 @@ fn next_row(m: usize, from: usize, to: usize, k: usize, without: u64, d: u64, sc
     ensures { scratch.new ≡ next_row k d (take m scratch.old) ++ drop (suc m) scratch.old }
 {
     scratch[m] = 0;
-    let mut j = to;
-    while from < j {
-        scratch[j] = next_entry(scratch[j], scratch[j - 1], k, without, d);
-        j -= 1;
+    for j in (from..to).rev() {
+        scratch[j + 1] = next_entry(scratch[j + 1], scratch[j], k, without, d);
     }
     scratch[from] = next_entry(scratch[from], 0, k, without, d);
 }
@@ -52,15 +48,10 @@ fn past_zeros(from: usize, to: usize, scratch: &[u64]) -> usize
     requires { (from ≤ to) × (to ≤ length scratch.now) }
     ensures { (from ≤ result) × (result ≤ to) × ((j : ℕ) → from ≤ j → j < result → get_or scratch.now j 0 ≡ 0) }
 {
-    let mut i = from;
-    while i < to {
-        let set = scratch[i] != 0;
-        if set {
-            return i;
-        }
-        i += 1;
+    match scratch[from..to].iter().position(|entry| *entry != 0) {
+        Some(zeros) => from + zeros,
+        None => to,
     }
-    i
 }
 
 // A place before zeros that they end with.
@@ -68,12 +59,8 @@ fn before_zeros(from: usize, to: usize, scratch: &[u64]) -> usize
     requires { (from ≤ to) × (to ≤ length scratch.now) }
     ensures { (from ≤ result) × (result ≤ to) × ((j : ℕ) → result ≤ j → j < to → get_or scratch.now j 0 ≡ 0) }
 {
-    let mut i = to;
-    while from < i {
-        if scratch[i - 1] != 0 {
-            return i;
-        }
-        i -= 1;
+    match scratch[from..to].iter().rposition(|entry| *entry != 0) {
+        Some(last) => from + last + 1,
+        None => from,
     }
-    i
 }

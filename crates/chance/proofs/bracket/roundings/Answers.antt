@@ -13,9 +13,6 @@ small s =
     let h : n + 3 ≤ 4099 = omega arith in
     mul-le-mul s.requires h
 
-pub overflow_mul-result : goal.overflow_mul-result
-overflow_mul-result c = omega (arith, small c)
-
 pub returns : goal.returns
 unfolding roundings
 returns c = (refl, omega (arith, small c))

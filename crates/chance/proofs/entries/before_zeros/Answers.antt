@@ -1,34 +1,36 @@
--- `entries::before_zeros` meets its contract: what has been passed is 0.
-use mathlib.Core.Path.{◌≡◌, ap, ◌∙◌}
-use Prim.Native.Nat.{ℕ, ◌-◌, ◌≤◌, ◌<◌}
+-- `entries::before_zeros` meets its contract: what stands past the last entry that is not 0 is 0.
+use mathlib.Core.Path.{◌≡◌}
+use mathlib.Core.List.{List}
+use Prim.Native.Nat.{ℕ, ◌+◌, ◌-◌, ◌<◌}
 use native.Mathlib.Omega.{arith}
-use native.Mathlib.Decide.{dec_lt}
-use lib.ListN.{get_or}
+use lib.ListN.{length, take, drop, length-take, length-drop}
+use Rattle.std.proofs.Common.{rules}
+use Rattle.std.specs.Option.{MatchOption}
+use Rattle.std.specs.List.{AllWithin}
+use Rattle.chance.proofs.Filling.{none_within}
+use Rattle.chance.proofs.entries.before_zeros.Goals.{After-rposition}
 use Rattle.chance.proofs.entries.before_zeros.Goals as goal
 
--- one zero more
-passing : (to i : ℕ) (f : ℕ → ℕ) → 0 < i → ((j : ℕ) → i ≤ j → j < to → f j ≡ 0) → f (i - 1) ≡ 0 → (j : ℕ) → i - 1 ≤ j → j < to → f j ≡ 0
-passing to i f pos all is j a h = go (dec_lt j i)
-  where
-    go : Dec (j < i) → f j ≡ 0
-    go (yes l) = let e : j ≡ i - 1 = omega arith in ap f e ∙ is
-    go (no l) = all j (omega arith) h
+-- the part that is gone through
+abbrev part : After-rposition → List ℕ
+part d = take (d.args.to - d.args.from) (drop d.args.from d.args.scratch.now)
 
-pub loop-i-init : goal.loop-i-init
-loop-i-init c = (omega arith, omega arith, λ j a h. absurd (omega arith))
+long : (d : After-rposition) → length (part d) ≡ d.args.to - d.args.from
+long d = omega (arith, length-take (d.args.to - d.args.from) (drop d.args.from d.args.scratch.now), length-drop d.args.from d.args.scratch.now)
 
-pub returns-then-scratch-i-ne0 : goal.returns-then-scratch-i-ne0
-returns-then-scratch-i-ne0 c = c.loop-i.invariant
+found : (d : After-rposition) → MatchOption d.rposition.result (AllWithin (λ x. x ≡ 0) (part d) 0 (length (part d))) (λ i. (i < length (part d)) × AllWithin (λ x. x ≡ 0) (part d) (i + 1) (length (part d)))
+found d = search rules
 
-pub loop-i-preserved : goal.loop-i-preserved
-loop-i-preserved c =
-    let i = c.loop-i.i in
-    let f = get_or c.args.scratch.now in
-    let pos : 0 < i = omega (arith, c.loop-i-test.true) in (
-      omega (arith, c.loop-i-test.true),
-      omega (arith, c.loop-i.invariant.1),
-      λ j a h. passing c.args.to i (λ x. f x 0) pos c.loop-i.invariant.2 c.if-scratch-i-ne0.false j a h,
-    )
+pub returns-in-Some : goal.returns-in-Some
+returns-in-Some c =
+    let d = (goal.at.returns-in-Some c).After-rposition in
+    let f = rw c.in-Some.is at (found d) in
+    let l = long d in
+    (omega arith, omega (arith, f.0), λ j a h. none_within c.args.scratch.now c.args.from c.args.to (c.in-Some.last + 1) (length (part d)) (omega arith) f.1 j (omega arith) (omega arith))
 
-pub returns : goal.returns
-returns c = c.loop-i.invariant
+pub returns-in-None : goal.returns-in-None
+returns-in-None c =
+    let d = (goal.at.returns-in-None c).After-rposition in
+    let f = rw c.in-None.is at (found d) in
+    let l = long d in
+    (omega arith, omega arith, λ j a h. none_within c.args.scratch.now c.args.from c.args.to 0 (length (part d)) (omega arith) f j (omega arith) (omega arith))

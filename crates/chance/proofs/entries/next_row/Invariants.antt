@@ -5,6 +5,3 @@ use Rattle.chance.proofs.entries.next_row.Given as goal
 
 abbrev pub invariant-loop-j : goal.invariant-loop-j
 invariant-loop-j l = Making l.k l.d l.m l.initial.scratch l.j l.scratch × (l.from ≤ l.j)
-
-abbrev pub decreases-loop-j : goal.decreases-loop-j
-decreases-loop-j l = l.j
