@@ -33,9 +33,10 @@ pub fn carry_over(earlier: Earlier, words: &mut [u64]) -> Result<Sampler, Refusa
     let lane = Lane {
         stride: words.len() / block_size,
         block: blocks,
+        low_first: earlier.low_first,
     };
     let mut unfinished = filled(0);
-    lane.read(words, earlier.low_first, &mut unfinished[..left]);
+    lane.read(words, &mut unfinished[..left]);
     lane.clear(words, 8 * left);
     Ok(Sampler {
         head: Head {
@@ -66,32 +67,34 @@ fn earlier_refusal(earlier: Earlier, words: usize) -> Result<(), Refusal>
     Ok(())
 }
 
-// Where a block stands in the words: how many words a row has, and the block's number.
+// Where a block stands in the words: how many words a row has, the block's number, and whether the low bit of a byte comes first.
+// Kept: what a method asks of the words is of its own number of bits, and `clear` changes them, so that the lane neither holds them nor the fact.
 #[derive(Clone, Copy)]
 struct Lane {
     stride: usize,
     block: usize,
+    low_first: bool,
 }
 
 impl Lane {
     // The first bytes of the block, as many as there is room for, as the words have them.
-    fn read(self, words: &[u64], low_first: bool, to: &mut [u8])
+    fn read(self, words: &[u64], to: &mut [u8])
         requires { BlockIn self.stride (length words.now) self.block (8 * length to.old) }
-        ensures { to.new ≡ list_of (length to.old) (stored_byte low_first self.stride words.now self.block) }
+        ensures { to.new ≡ list_of (length to.old) (stored_byte self.low_first self.stride words.now self.block) }
     {
         for (j, byte) in to.iter_mut().enumerate() {
-            *byte = self.byte(words, j, low_first);
+            *byte = self.byte(words, j);
         }
     }
 
     // Byte j of the block, as the words have it, from its highest bit down.
-    fn byte(self, words: &[u64], j: usize, low_first: bool) -> u8
+    fn byte(self, words: &[u64], j: usize) -> u8
         requires { BlockIn self.stride (length words.now) self.block (8 * j + 8) }
-        ensures { result ≡ stored_byte low_first self.stride words.now self.block j }
+        ensures { result ≡ stored_byte self.low_first self.stride words.now self.block j }
     {
         let mut x: u8 = 0;
         for i in (0..8).rev() {
-            x = 2 * x + self.bit(words, 8 * j + place_in(low_first, i));
+            x = 2 * x + self.bit(words, 8 * j + place_in(self.low_first, i));
         }
         x
     }

@@ -4,7 +4,7 @@ ghost use Rattle.counting.specs.Buffer.{put};
 ghost use Rattle.sampling.specs.Feeding.{as_taken, taken_of, next_head, as_fed, fed_unfinished, fed_of, fed_words};
 ghost use Rattle.sampling.specs.Sampler.{pending};
 
-use crate::putting::{Place, put_bytes};
+use crate::putting::{Layout, Place};
 use crate::sampler::{Head, Sampler, capacity_blocks, sampler_refusal};
 use counting::refusal::Refusal;
 
@@ -124,26 +124,15 @@ fn take_piece(
         write_bytes(unfinished, at + t, piece);
         return;
     }
-    let size = head.block_size / 8;
-    let stride = words.len() / head.block_size;
+    let layout = Layout {
+        size: head.block_size / 8,
+        stride: words.len() / head.block_size,
+        low_first: head.low_first,
+    };
     let block = head.blocks;
     let (used, left) = piece.split_at(piece.len() - taken.left);
-    put_bytes(
-        words,
-        size,
-        stride,
-        Place { block, byte: 0 },
-        &unfinished[at..at + t],
-        head.low_first,
-    );
-    put_bytes(
-        words,
-        size,
-        stride,
-        Place { block, byte: t },
-        used,
-        head.low_first,
-    );
+    layout.put_bytes(words, Place { block, byte: 0 }, &unfinished[at..at + t]);
+    layout.put_bytes(words, Place { block, byte: t }, used);
     keep(unfinished, at, left, t);
 }
 

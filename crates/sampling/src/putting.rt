@@ -32,45 +32,41 @@ impl Place {
     }
 }
 
-// Puts the bytes in from a place on; size is the bytes of a block, stride the words of a row.
-// The place goes from byte to byte, so that no byte costs a division.
-pub fn put_bytes(
-    words: &mut [u64],
-    size: usize,
-    stride: usize,
-    from: Place,
-    bytes: &[u8],
-    low_first: bool,
-)
-    requires byte_lt_size { from.byte < size }
-    requires stride_in_bounds { 8 * size * stride ≤ length words.old }
-    requires bytes_bound { from.block * size + from.byte + length bytes.now ≤ 64 * stride * size }
-    ensures { words.new ≡ put_bytes low_first size stride words.old (from.block * size + from.byte) bytes.now (length bytes.now) }
-{
-    let mut place = from;
-    for x in bytes {
-        let e = place.block;
-        put_byte(
-            words,
-            8 * place.byte * stride + e / 64,
-            stride,
-            e % 64,
-            *x,
-            low_first,
-        );
-        place = place.next(size);
-    }
+// How blocks lie in the words: the bytes of a block, the words of a row, and whether the low bit of a byte comes first.
+#[derive(Clone, Copy)]
+pub struct Layout {
+    pub size: usize,
+    pub stride: usize,
+    pub low_first: bool,
 }
 
-// Puts the byte's bits, in the bit order, into bit k of the words at, at + stride, ..
-fn put_byte(words: &mut [u64], at: usize, stride: usize, k: usize, x: u8, low_first: bool)
-    requires stride_in_bounds { at + 7 * stride < length words.old }
-    requires k_bound { k < 64 }
-    ensures { words.new ≡ put_bits low_first stride words.old at k x 8 }
-{
-    for r in 0..8 {
-        let v = (x >> place_in(low_first, r)) % 2;
-        put_bit(words, at + r * stride, k, v as u64);
+impl Layout {
+    // Puts the bytes in from a place on.
+    // The place goes from byte to byte, so that no byte costs a division.
+    pub fn put_bytes(self, words: &mut [u64], from: Place, bytes: &[u8])
+        requires byte_lt_size { from.byte < self.size }
+        requires stride_in_bounds { 8 * self.size * self.stride ≤ length words.old }
+        requires bytes_bound { from.block * self.size + from.byte + length bytes.now ≤ 64 * self.stride * self.size }
+        ensures { words.new ≡ put_bytes self.low_first self.size self.stride words.old (from.block * self.size + from.byte) bytes.now (length bytes.now) }
+    {
+        let mut place = from;
+        for x in bytes {
+            let e = place.block;
+            self.put_byte(words, 8 * place.byte * self.stride + e / 64, e % 64, *x);
+            place = place.next(self.size);
+        }
+    }
+
+    // Puts the byte's bits, in the bit order, into bit k of the words at, at + stride, ..
+    fn put_byte(self, words: &mut [u64], at: usize, k: usize, x: u8)
+        requires stride_in_bounds { at + 7 * self.stride < length words.old }
+        requires k_bound { k < 64 }
+        ensures { words.new ≡ put_bits self.low_first self.stride words.old at k x 8 }
+    {
+        for r in 0..8 {
+            let v = (x >> place_in(self.low_first, r)) % 2;
+            put_bit(words, at + r * self.stride, k, u64::from(v));
+        }
     }
 }
 

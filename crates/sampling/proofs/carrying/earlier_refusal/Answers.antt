@@ -26,13 +26,13 @@ pub returns-then-earlier-words : goal.returns-then-earlier-words
 unfolding earlier_refusal
 returns-then-earlier-words c = simp (size_ok (goal.at.returns-then-earlier-words c).Else-not-valid_block_size, ne_eqb _ _ c.if-earlier-words.true)
 
-pub capacity_bytes-requires : goal.capacity_bytes-requires
-capacity_bytes-requires c =
-    record {
-      le_block_size = omega (arith, valid_facts _ (size_ok (goal.at.capacity_bytes-requires c).Else-not-valid_block_size), c.requires);
-      block_size_bound = omega (arith, valid_facts _ (size_ok (goal.at.capacity_bytes-requires c).Else-not-valid_block_size), c.requires);
-      words_bound = omega (arith, valid_facts _ (size_ok (goal.at.capacity_bytes-requires c).Else-not-valid_block_size), c.requires);
-    }
+pub capacity_bytes-requires-clause-le_block_size : goal.capacity_bytes-requires-clause-le_block_size
+capacity_bytes-requires-clause-le_block_size c =
+    omega (arith, valid_facts _ (size_ok (goal.at.capacity_bytes-requires-clause-le_block_size c).Else-not-valid_block_size))
+
+pub capacity_bytes-requires-clause-block_size_bound : goal.capacity_bytes-requires-clause-block_size_bound
+capacity_bytes-requires-clause-block_size_bound c =
+    omega (arith, valid_facts _ (size_ok (goal.at.capacity_bytes-requires-clause-block_size_bound c).Else-not-valid_block_size))
 
 pub returns-then-earlier-capacity_bytes : goal.returns-then-earlier-capacity_bytes
 unfolding earlier_refusal

@@ -38,7 +38,7 @@ none : (t : Then-taken-head) → let a = t.args in Keeps a.head a.unfinished.now
 none t =
     let a = t.args in
     let told = takes a.head (length a.words.now) a.board (length a.piece.now) a.taken t.requires.taken_value in
-    let no_more : completed a.head a.board (length a.piece.now) ≡ 0 = omega (arith, told.blocks, t.if-taken-head.true) in
+    let no_more : completed a.head a.board (length a.piece.now) ≡ 0 = omega (arith, told, t.if-taken-head.true) in
     keeps a.head a.unfinished.now a.words.now a.board a.piece.now t.requires.unfinished_len told.free no_more
 
 pub overflow_add-at : goal.overflow_add-at
@@ -66,7 +66,7 @@ so_many : (e : Else-taken-head) → let a = e.args in (a.taken.left ≤ length a
 so_many e =
     let a = e.args in
     let told = takes a.head (length a.words.now) a.board (length a.piece.now) a.taken e.requires.taken_value in
-    let some : 1 ≤ completed a.head a.board (length a.piece.now) = omega (arith, told.blocks, e.if-taken-head.false) in
+    let some : 1 ≤ completed a.head a.board (length a.piece.now) = omega (arith, told, e.if-taken-head.false) in
     let u = uses_so_many a.head a.unfinished.now a.words.now a.board a.piece.now e.requires.unfinished_len told.free some in
     subst (λ (m : ℕ). (m ≤ length a.piece.now) × Uses a.head a.unfinished.now a.words.now a.board a.piece.now (length a.piece.now - m)) (sym told.left)
     (u.0, uses a.head a.unfinished.now a.words.now a.board a.piece.now _ e.requires.unfinished_len told.free u.1)
@@ -90,8 +90,8 @@ part_long u =
     let free = (takes a.head (length a.words.now) a.board (length a.piece.now) a.taken u.requires.taken_value).free in
     ap length (part_is u) ∙ (fits a.head a.unfinished.now a.words.now a.board a.piece.now u.requires.unfinished_len free).tail_long
 
-pub nonzero_div-stride : goal.nonzero_div-stride
-nonzero_div-stride c = omega (arith, has (goal.at.nonzero_div-stride c).Start)
+pub nonzero_div-layout-2 : goal.nonzero_div-layout-2
+nonzero_div-layout-2 c = omega (arith, has (goal.at.nonzero_div-layout-2 c).Start)
 
 pub overflow_sub-piece : goal.overflow_sub-piece
 overflow_sub-piece c = (so_many (goal.at.overflow_sub-piece c).Else-taken-head).0

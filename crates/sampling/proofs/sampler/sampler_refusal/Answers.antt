@@ -33,12 +33,9 @@ pub returns-then-sampler-words : goal.returns-then-sampler-words
 unfolding sampler_refusal
 returns-then-sampler-words c = simp (size_ok (goal.at.returns-then-sampler-words c).Else-not-valid_block_size, ne_eqb _ _ c.if-sampler-words.true)
 
-pub capacity_blocks-requires : goal.capacity_blocks-requires
-capacity_blocks-requires c =
-    record {
-      le_block_size = omega (arith, valid_facts _ (size_ok (goal.at.capacity_blocks-requires c).Else-not-valid_block_size), c.requires);
-      words_bound = omega (arith, valid_facts _ (size_ok (goal.at.capacity_blocks-requires c).Else-not-valid_block_size), c.requires);
-    }
+pub capacity_blocks-requires-clause-le_block_size : goal.capacity_blocks-requires-clause-le_block_size
+capacity_blocks-requires-clause-le_block_size c =
+    omega (arith, valid_facts _ (size_ok (goal.at.capacity_blocks-requires-clause-le_block_size c).Else-not-valid_block_size))
 
 pub returns-then-sampler-capacity_blocks : goal.returns-then-sampler-capacity_blocks
 unfolding sampler_refusal

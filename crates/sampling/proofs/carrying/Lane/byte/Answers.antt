@@ -20,7 +20,7 @@ unfolding stored_bit
 stored_small S ws e b = bit_lt (get_or ws (b * S + e / 64) 0) (e % 64)
 
 abbrev bit : At-loop-i → ℕ → ℕ
-bit l r = let a = l.args in stored_bit a.self.stride a.words.now a.self.block (8 * a.j + place_in a.low_first r)
+bit l r = let a = l.args in stored_bit a.self.stride a.words.now a.self.block (8 * a.j + place_in a.self.low_first r)
 
 -- before the last bit there are at most seven
 small : (l : At-loop-i) → 0 < l.loop-i.i → l.loop-i.x < 128
@@ -29,7 +29,7 @@ small l some =
     let a = l.args in
     let few : length (drop i eight) ≤ 7 = rw (length-drop i eight) (omega arith) in
     rw l.loop-i.invariant
-    (lt_of_lt_of_le (bin_lt (bit l) (λ r. stored_small a.self.stride a.words.now a.self.block (8 * a.j + place_in a.low_first r)) (drop i eight)) (pow_mono few))
+    (lt_of_lt_of_le (bin_lt (bit l) (λ r. stored_small a.self.stride a.words.now a.self.block (8 * a.j + place_in a.self.low_first r)) (drop i eight)) (pow_mono few))
 
 pub loop-i-init : goal.loop-i-init
 unfolding bin_of

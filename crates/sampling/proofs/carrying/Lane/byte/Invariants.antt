@@ -8,4 +8,4 @@ use Rattle.sampling.proofs.Lifting.{eight}
 use Rattle.sampling.proofs.carrying.Lane.byte.Given as goal
 
 abbrev pub invariant-loop-i : goal.invariant-loop-i
-invariant-loop-i l = l.x ≡ bin_of (λ r. stored_bit l.self.stride l.words l.self.block (8 * l.j + place_in l.low_first r)) (drop l.i eight)
+invariant-loop-i l = l.x ≡ bin_of (λ r. stored_bit l.self.stride l.words l.self.block (8 * l.j + place_in l.self.low_first r)) (drop l.i eight)

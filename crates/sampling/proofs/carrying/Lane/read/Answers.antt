@@ -25,7 +25,7 @@ pub loop-j-preserved : goal.loop-j-preserved
 loop-j-preserved c =
     let a = c.args in
     let j = c.loop-j.j in
-    let f = stored_byte a.low_first a.self.stride a.words.now a.self.block in
+    let f = stored_byte a.self.low_first a.self.stride a.words.now a.self.block in
     let room : j < length a.to.now = omega arith in
     let at : 0 + length (list_of j f) ≡ j = rw length_list (omega arith) in
     (λ i. set (c.loop-j.invariant i) j (c.byte.ensures i)) ∙ put_more a.to.now 0 (list_of j f) (f j) j at room ∙ ap (put a.to.now 0) (sym (listed_more f j))
@@ -34,7 +34,7 @@ pub returns : goal.returns
 returns c =
     let a = c.args in
     let to = a.to.now in
-    let f = stored_byte a.low_first a.self.stride a.words.now a.self.block in
+    let f = stored_byte a.self.low_first a.self.stride a.words.now a.self.block in
     let past : c.loop-j.j ≡ length to = omega arith in
     c.loop-j.invariant ∙ ap (λ (j : ℕ). put to 0 (list_of j f)) past ∙ put_first to (list_of (length to) f)
     ∙ ap (λ (k : ℕ). list_of (length to) f ++ drop k to) (length_list (length to) f)

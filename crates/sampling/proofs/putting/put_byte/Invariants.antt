@@ -1,7 +1,0 @@
--- `putting::put_byte` meets its contract: after r turns the words are those with r bits put in.
-use mathlib.Core.Path.{◌≡◌}
-use Rattle.sampling.specs.Putting.{put_bits}
-use Rattle.sampling.proofs.putting.put_byte.Given as goal
-
-abbrev pub invariant-loop-r : goal.invariant-loop-r
-invariant-loop-r l = l.words ≡ put_bits l.low_first l.stride l.initial.words l.at l.k l.x l.r
