@@ -16,18 +16,16 @@ use Rattle.chance.specs.Bracket.{Between}
 use Rattle.chance.proofs.Answering.{accepted}
 use Rattle.chance.proofs.Bracketing.{brackets}
 use Rattle.searching.proofs.Refusing.{neither}
-use Rattle.judging.specs.Plan.{plan_of}
-use Rattle.judging.specs.declared.plan.Plan.{Plan}
+use Rattle.judging.specs.Plan.{Plan, plan_of}
 use Rattle.sweeping.specs.Pair.{pair_at, judged_of, tested_of, Sound, Testable}
 use Rattle.sweeping.specs.Progress.{begun, lowest_of, counted, next_progress, progress_to}
 use Rattle.sweeping.specs.Refusal.{pairs_refusal, unskipped, skipped_refusal, level_refusal, sweep_refusal}
-use Rattle.sweeping.specs.Sweep.{share_of, answer_of, swept_with, swept_of}
+use Rattle.sweeping.specs.Sweep.{Swept, share_of, answer_of, swept_with, swept_of}
 use Rattle.sweeping.specs.Verdict.{verdict_of, verdict_number}
 use Rattle.sweeping.specs.Conclusions.{chance_of, whole_of, TestOf, Lowest, Rejection, Indecision, Passing, Concludes, SweepsConclude}
 use Rattle.sweeping.specs.declared.pair.Tested.{Tested}
 use Rattle.sweeping.specs.declared.progress.Progress.{Progress}
 use Rattle.sweeping.specs.declared.refusal.Room.{Room}
-use Rattle.sweeping.specs.declared.sweep.Swept.{Swept}
 use Rattle.sweeping.specs.declared.verdict.Verdict.TheVariants.{Rejected, Undecided, NotRejected}
 use Rattle.sweeping.proofs.Plans.{sound}
 use Rattle.sweeping.proofs.Progressing.{stopped, skips, tests, tested_few}

@@ -1,14 +1,18 @@
 -- What an evaluation answers can be bracketed (`evaluated_bracketed`).
-use mathlib.Core.Path.{◌≡◌, sym, ap, subst, ◌∙◌}
+use mathlib.Core.Path.{◌≡◌, refl, sym, ap, subst, ◌∙◌}
 use mathlib.Core.Bool.{true}
 use mathlib.Core.List.{List}
 use Prim.Native.Nat.{ℕ, suc, ◌^◌, ◌≤◌}
 use native.Mathlib.Omega.{arith}
 use lib.ListN.{length}
 use borrow.Author.Tests.{le-leb, lt-ltb}
+use Rattle.std.specs.Prelude.{Result, Ok, Err}
+use Rattle.std.specs.Result.{IsOk}
 use Rattle.counting.specs.Block.{valid_size}
 use Rattle.counting.specs.Recording.{recorded_bit}
+use Rattle.counting.specs.declared.refusal.Refusal.{Refusal}
 use Rattle.counting.proofs.Counts.{counts_add_up}
+use Rattle.counting.proofs.Reasons.{some_number}
 use Rattle.subsets.proofs.Refusing.{valid_width_is}
 use Rattle.chance.specs.Bracket.{bracket_refusal}
 use Rattle.searching.specs.declared.finding.Finding.{Finding}
@@ -16,7 +20,8 @@ use Rattle.searching.proofs.Filled.{length_counts}
 use Rattle.searching.proofs.Refusing.{neither}
 use Rattle.judging.specs.Check.{chosen, order_refusal}
 use Rattle.judging.specs.Permutation.{Permutation}
-use Rattle.judging.specs.Evaluation.{testing_blocks, counts_in, positive_in, z_in, early_evaluation_refusal, evaluation_refusal, answer_with, evaluated_of}
+use Rattle.judging.specs.Evaluation.{testing_blocks, counts_in, positive_in, z_in, early_evaluation_refusal, evaluation_refusal, Evaluated, as_evaluated, answer_with, evaluated_of}
+use Rattle.judging.specs.declared.evaluation.Evaluated as found
 use Rattle.judging.proofs.Checking.{Ordered, ordered, chosen_length}
 use Rattle.judging.proofs.Evaluating.{Early, early, recorded_small}
 use Rattle.judging.proofs.Once.{once_permutes}
@@ -80,3 +85,9 @@ pub evaluated_positive : (f : Finding) (order testing : List ℕ) (scratch : ℕ
 unfolding evaluated_of
 evaluated_positive f order testing scratch free =
     ap (λ (r : ℕ). (answer_with r (testing_blocks f testing) (positive_in f order testing) (z_in f order testing)).positive) free
+
+pub evaluated_well : (f : Finding) (order testing : List ℕ) (scratch : ℕ) (x : Result found.Evaluated Refusal) → as_evaluated x ≡ evaluated_of f order testing scratch → evaluation_refusal f order testing scratch ≡ 0 → IsOk x
+unfolding evaluated_of
+evaluated_well f order testing scratch (Ok e) is free = refl
+evaluated_well f order testing scratch (Err r) is free =
+    absurd (some_number r (ap (λ (e : Evaluated). e.refusal) is ∙ ap (λ (r : ℕ). (answer_with r (testing_blocks f testing) (positive_in f order testing) (z_in f order testing)).refusal) free))

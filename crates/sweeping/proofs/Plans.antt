@@ -1,18 +1,25 @@
 -- Every plan is sound: its pairs have valid block sizes and widths that fit them.
-use mathlib.Core.Path.{◌≡◌, refl, sym, ap, subst}
+use mathlib.Core.Path.{◌≡◌, refl, sym, ap, subst, ◌∙◌}
 use mathlib.Core.Bool.{Bool, true, false, cond, ◌&&◌}
 use mathlib.Core.List.{List, [], ◌∷◌}
 use Prim.Native.Nat.{ℕ, zero, suc, ◌-◌, ◌*◌, ◌%◌, ◌≤◌, ◌<◌, max}
 use native.Mathlib.Omega.{arith}
 use lib.Dec.{leb, ltb, eqb}
-use lib.ListN.{length, get_or, replicate, length-map, get_or-append}
+use lib.ListN.{length, get_or, replicate, take, length-map, get_or-append}
 use borrow.Author.Tests.{le-leb, eq-eqb, leb-true}
+use Rattle.std.specs.Prelude.{Ok}
+use Rattle.std.proofs.lemmas.List.{get_or-take, get_or-map}
 use Rattle.counting.specs.Block.{valid_size}
 use Rattle.counting.proofs.Accepted.{valid_facts}
 use Rattle.ranking.proofs.Totals.{map_at}
-use Rattle.judging.specs.Plan.{width_for, besides_eight, sizes_from, sizes_of, widths_of, plan_of, Sweeps}
+use Rattle.judging.specs.Plan.{width_for, besides_eight, sizes_from, sizes_of, widths_of, sizes_in, widths_in, as_plan, plan_of, Sweeps}
+use Rattle.judging.specs.declared.plan.Plan as code
+use Rattle.judging.specs.declared.plan.Planned.{Planned}
 use Rattle.judging.proofs.Sweeping.{sweeps, pairs_are, block_at}
-use Rattle.sweeping.specs.Pair.{Sizes, Sound}
+use Rattle.sweeping.specs.Pair.{pair_at, Sizes, Sound}
+use Rattle.sweeping.specs.Refusal.{pair_refusal}
+use Rattle.sweeping.specs.declared.pair.Pair.{Pair}
+use Rattle.sweeping.specs.declared.refusal.Room.{Room}
 
 -- ---- block sizes
 
@@ -118,3 +125,32 @@ sound B bytes = by_size (valid_size B) refl
     by_size : (t : Bool) → valid_size B ≡ t → Sound (plan_of B bytes)
     by_size true e = sound_valid B bytes e
     by_size false e = sound_refused B bytes e
+
+-- ---- the pairs in the array of a plan
+
+-- what stands for an entry past the array
+abbrev pub no_pair : Planned
+no_pair = record { block_size = 0; width = 0 }
+
+module _ (p : code.Plan) (i : ℕ) (within : i < p.pairs) (few : p.pairs ≤ length p.sizes) where
+  abbrev pub pair_here : Planned
+  pair_here = get_or (take p.pairs p.sizes) i no_pair
+
+  pub size_here : pair_here.block_size ≡ get_or (sizes_in p.sizes) i 0
+  size_here =
+      ap (λ (s : Planned). s.block_size) (get_or-take p.pairs p.sizes i no_pair within)
+      ∙ sym (get_or-map (λ (s : Planned). s.block_size) p.sizes i no_pair 0 (omega arith))
+
+  pub width_here : pair_here.width ≡ get_or (widths_in p.sizes) i 0
+  width_here =
+      ap (λ (s : Planned). s.width) (get_or-take p.pairs p.sizes i no_pair within)
+      ∙ sym (get_or-map (λ (s : Planned). s.width) p.sizes i no_pair 0 (omega arith))
+
+  pub sizes_here : Sound (as_plan (Ok p)) → Sizes pair_here.block_size pair_here.width
+  sizes_here s = rw (size_here, width_here) (s.sizes i within)
+
+  pub refused_here : (bytes : ℕ) (lent : Room) → pair_refusal bytes pair_here.block_size pair_here.width lent ≡ pair_refusal bytes (get_or (sizes_in p.sizes) i 0) (get_or (widths_in p.sizes) i 0) lent
+  refused_here bytes lent j = pair_refusal bytes (size_here j) (width_here j) lent
+
+  pub pair_is : (low : Bool) → ◌≡◌ {A = Pair} (record { block_size = pair_here.block_size; width = pair_here.width; low_first = low }) (pair_at (as_plan (Ok p)) low i)
+  pair_is low j = record { block_size = size_here j; width = width_here j; low_first = low }

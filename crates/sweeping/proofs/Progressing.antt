@@ -6,7 +6,7 @@ use Prim.Native.Nat.{ℕ, zero, suc, ◌≤◌}
 use native.Mathlib.Omega.{arith}
 use lib.Dec.{leb}
 use Rattle.counting.specs.Recording.{blocks_in}
-use Rattle.judging.specs.declared.plan.Plan.{Plan}
+use Rattle.judging.specs.Plan.{Plan}
 use Rattle.sweeping.specs.Pair.{pair_at, tested_of}
 use Rattle.sweeping.specs.Progress.{begun, counted, next_progress, progress_to}
 use Rattle.sweeping.specs.declared.pair.Pair.{Pair}

@@ -13,7 +13,7 @@ use Rattle.searching.specs.Refusal.{or_else, buffer_refusal}
 use Rattle.searching.proofs.Refusing.{or_first, or_next, neither, buffer_free}
 use Rattle.judging.specs.Check.{scratch_refusal}
 use Rattle.judging.specs.Split.{first_blocks}
-use Rattle.judging.specs.declared.plan.Plan.{Plan}
+use Rattle.judging.specs.Plan.{Plan}
 use Rattle.judging.proofs.Checking.{room}
 use Rattle.sweeping.specs.Pair.{Sizes, Sound, tested_blocks, Testable}
 use Rattle.sweeping.specs.Refusal.{level_refusal, training_refusal, room_refusal, pair_refusal, pairs_refusal, unskipped, skipped_refusal, sweep_refusal}

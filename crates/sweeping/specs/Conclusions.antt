@@ -2,13 +2,11 @@
 use Rattle.std.specs.Prelude.{◌≡◌, Bool, List, ℕ, suc, ◌*◌, ◌^◌, ◌≤◌, ◌<◌, length, get_or}
 use Rattle.counting.specs.Recording.{blocks_in}
 use Rattle.chance.specs.Chance.{binomial_sum}
-use Rattle.judging.specs.Plan.{plan_of}
-use Rattle.judging.specs.declared.plan.Plan.{Plan}
+use Rattle.judging.specs.Plan.{Plan, plan_of}
 use Rattle.sweeping.specs.Pair.{pair_at, tested_of}
-use Rattle.sweeping.specs.Sweep.{share_of, swept_of}
+use Rattle.sweeping.specs.Sweep.{Swept, share_of, swept_of}
 use Rattle.sweeping.specs.declared.pair.Tested.{Tested}
 use Rattle.sweeping.specs.declared.refusal.Room.{Room}
-use Rattle.sweeping.specs.declared.sweep.Swept.{Swept}
 use Rattle.sweeping.specs.declared.verdict.Verdict.TheVariants.{Rejected, Undecided, NotRejected}
 
 -- the exact chance of a test's positive blocks or more, times 2 ^ (k × n): n blocks, c of them positive, d of the 2 ^ k bins

@@ -7,7 +7,7 @@ use Rattle.searching.specs.declared.finding.Finding.{Finding}
 use Rattle.judging.specs.Evaluation.{positive_in, evaluation_refusal}
 use Rattle.judging.specs.Split.{first_blocks, first_part, second_part}
 use Rattle.judging.specs.Training.{trained_of, trained_order}
-use Rattle.judging.specs.declared.plan.Plan.{Plan}
+use Rattle.judging.specs.Plan.{Plan}
 use Rattle.sweeping.specs.declared.pair.Pair.{Pair}
 use Rattle.sweeping.specs.declared.pair.Tested.{Tested}
 

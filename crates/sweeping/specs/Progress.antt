@@ -2,7 +2,7 @@
 use Rattle.std.specs.Prelude.{Bool, false, cond, ◌||◌, List, ℕ, zero, suc, leb, ltb, eqb}
 use Rattle.counting.specs.Recording.{blocks_in}
 use Rattle.searching.specs.Finding.{no_finding}
-use Rattle.judging.specs.declared.plan.Plan.{Plan}
+use Rattle.judging.specs.Plan.{Plan}
 use Rattle.sweeping.specs.Pair.{pair_at, tested_of}
 use Rattle.sweeping.specs.declared.pair.Pair.{Pair}
 use Rattle.sweeping.specs.declared.pair.Tested.{Tested}

@@ -4,7 +4,7 @@ use Rattle.counting.specs.Recording.{block_bytes, capacity_bytes}
 use Rattle.searching.specs.Refusal.{or_else, buffer_refusal}
 use Rattle.judging.specs.Check.{scratch_refusal}
 use Rattle.judging.specs.Split.{first_blocks}
-use Rattle.judging.specs.declared.plan.Plan.{Plan}
+use Rattle.judging.specs.Plan.{Plan}
 use Rattle.sweeping.specs.Pair.{tested_blocks}
 use Rattle.sweeping.specs.declared.refusal.Room.{Room}
 

@@ -1,13 +1,16 @@
 -- The sweep of a recording: its answer, from the recording's bytes, and the lent buffers where it is refused.
-use Rattle.std.specs.Prelude.{◌≡◌, Bool, cond, List, ℕ, zero, suc, ◌/◌, length}
-use Rattle.judging.specs.Plan.{plan_of}
-use Rattle.judging.specs.declared.plan.Plan.{Plan}
+use Rattle.std.specs.Prelude.{◌≡◌, Bool, cond, List, ℕ, zero, suc, ◌/◌, length, Result, Ok, Err}
+use Rattle.counting.specs.Refusal.{number_of}
+use Rattle.counting.specs.declared.refusal.Refusal.{Refusal}
+use Rattle.judging.specs.Plan.{Plan, plan_of}
 use Rattle.sweeping.specs.Progress.{none_tested, progress_to}
 use Rattle.sweeping.specs.Refusal.{sweep_refusal}
 use Rattle.sweeping.specs.Verdict.{verdict_of}
+use Rattle.sweeping.specs.declared.pair.Tested.{Tested}
 use Rattle.sweeping.specs.declared.progress.Progress.{Progress}
 use Rattle.sweeping.specs.declared.refusal.Room.{Room}
-use Rattle.sweeping.specs.declared.sweep.Swept.{Swept}
+use Rattle.sweeping.specs.declared.sweep.Swept as answered
+use Rattle.sweeping.specs.declared.verdict.Verdict.{Verdict}
 use Rattle.sweeping.specs.declared.verdict.Verdict.TheVariants.{Undecided}
 
 -- how many entries the lent buffers have
@@ -19,6 +22,14 @@ room_of words bins order scratch entries =
 abbrev pub share_of : ℕ → Plan → ℕ
 share_of a plan = a / plan.pairs
 
+-- an answer of a sweep as numbers and tests: a refusal, 0 where there is none, the verdict, how many pairs were tested, the best test and the last
+pub record Swept : Type 0 where
+  pub refusal : ℕ
+  pub verdict : Verdict
+  pub tested : ℕ
+  pub best : Tested
+  pub last : Tested
+
 -- the answer after the last pair
 abbrev pub answer_of : Progress → Swept
 answer_of p = record { refusal = 0; verdict = verdict_of p.rejected p.below; tested = p.tested; best = p.best; last = p.last }
@@ -26,6 +37,11 @@ answer_of p = record { refusal = 0; verdict = verdict_of p.rejected p.below; tes
 -- the answer beside a refusal: every number 0, the verdict's too
 abbrev pub refused_sweep : ℕ → Swept
 refused_sweep r = record { refusal = r; verdict = Undecided; tested = 0; best = none_tested; last = none_tested }
+
+-- an answer as code gives it
+abbrev pub as_swept : Result answered.Swept Refusal → Swept
+as_swept (Ok s) = record { refusal = 0; verdict = s.verdict; tested = s.tested; best = s.best; last = s.last }
+as_swept (Err r) = refused_sweep (number_of r)
 
 -- the answer with the refusal r
 abbrev pub swept_with : ℕ → ℕ → Plan → Bool → List ℕ → Swept

@@ -70,7 +70,7 @@ fn judge(
     requires { Judgeable finding order.now testing.now (length scratch.old) (length entries.old) }
     ensures { result ≡ judged_of finding order.now testing.now }
 {
-    let evaluated = evaluate_histogram(finding, order, testing, scratch);
+    let evaluated = evaluate_histogram(finding, order, testing, scratch).unwrap();
     let blocks = testing.len() / (finding.block_size / 8);
     let positive = evaluated.positive;
     let chance = bracket(
@@ -79,7 +79,8 @@ fn judge(
         finding.width,
         finding.division as usize,
         entries,
-    );
+    )
+    .unwrap();
     Tested {
         finding,
         blocks,
@@ -96,8 +97,5 @@ fn tested_part(raw: &[u8], block_size: usize) -> &[u8]
 {
     let testing = second_part(raw, block_size, true);
     let most = 4096 * (block_size / 8);
-    if testing.len() <= most {
-        return testing;
-    }
-    &testing[..most]
+    &testing[..testing.len().min(most)]
 }

@@ -1,12 +1,13 @@
 // How far a sweep has come.
-ghost use Rattle.std.specs.Prelude.{◌≡◌, ◌||◌, ◌<◌, ltb};
+ghost use Rattle.std.specs.Prelude.{◌≡◌, ◌<◌};
 ghost use Rattle.sweeping.specs.Progress.{none_tested, begun, lowest_of, counted};
 
 use crate::pair::Tested;
-use searching::finding::refused;
+use searching::finding::no_finding;
 
 // How many pairs were tested; whether the last of them was rejected, which ends the sweep; whether a bracket reaches down below the share; the pair with
 // the lowest lower end, and the last one.
+// Kept: `begun` and `lowest_of`, on which `SweepsConclude` stands, have a test with every field 0 where none was made, and no Option.
 #[derive(Clone, Copy)]
 pub struct Progress {
     pub tested: usize,
@@ -37,30 +38,17 @@ pub fn counted(progress: Progress, tested: Tested, share: u64) -> Progress
     Progress {
         tested: progress.tested + 1,
         rejected: tested.high < share,
-        below: reaches(progress.below, tested.low, share),
+        below: progress.below || tested.low < share,
         best: lowest_of(progress, tested),
         last: tested,
     }
-}
-
-// Whether a bracket before, or the one with this lower end, reaches down below the share.
-fn reaches(below: bool, low: u64, share: u64) -> bool
-    ensures { result ≡ below || ltb low share }
-{
-    if below {
-        return true;
-    }
-    low < share
 }
 
 // The one with the lower lower end, the earlier where they are equal.
 fn lowest_of(progress: Progress, tested: Tested) -> Tested
     ensures { result ≡ lowest_of progress tested }
 {
-    if progress.tested == 0 {
-        return tested;
-    }
-    if tested.low < progress.best.low {
+    if progress.tested == 0 || tested.low < progress.best.low {
         return tested;
     }
     progress.best
@@ -70,10 +58,8 @@ fn lowest_of(progress: Progress, tested: Tested) -> Tested
 pub fn none() -> Tested
     ensures { result ≡ none_tested }
 {
-    let nothing = refused(0);
-    let finding = nothing.finding;
     Tested {
-        finding,
+        finding: no_finding(),
         blocks: 0,
         positive: 0,
         low: 0,

@@ -1,22 +1,23 @@
 // The sweep, as a caller meets it.
-ghost use Rattle.std.specs.Prelude.{◌≡◌, ◌^◌, ◌≤◌, length};
+ghost use Rattle.std.specs.Prelude.{◌≡◌, ◌≤◌, Ok, length};
+ghost use Rattle.judging.specs.Plan.{as_plan};
 ghost use Rattle.sweeping.specs.Pair.{Sizes, Sound};
 ghost use Rattle.sweeping.specs.Progress.{next_progress, progress_to};
 ghost use Rattle.sweeping.specs.Refusal.{pair_refusal, pairs_refusal};
-ghost use Rattle.sweeping.specs.Sweep.{refused_sweep, answer_of, swept_of, swept_number, room_of, LentWhereRefused};
+ghost use Rattle.sweeping.specs.Sweep.{as_swept, answer_of, swept_of, swept_number, room_of, LentWhereRefused};
 ghost use Rattle.sweeping.specs.Verdict.{verdict_number};
 
 use crate::pair::{Pair, Tested, test_pair};
-use crate::progress::{Progress, begun, counted, none};
-use crate::refusal::{Room, sweep_refusal};
+use crate::progress::{Progress, begun, counted};
+use crate::refusal::{Room, sweep_plan};
 use crate::verdict::{Verdict, verdict_of};
-use judging::plan::{Plan, configurations};
+use counting::refusal::Refusal;
+use judging::plan::Plan;
 
-// What a sweep answers: a refusal, 0 where there is none, the verdict, how many pairs were tested, the pair with the lowest lower end, the earlier where
+// What a sweep answers: the verdict, how many pairs were tested, the pair with the lowest lower end, the earlier where
 // two are equal, and the pair tested last, which is the one that is rejected where one is.
 #[derive(Clone, Copy)]
 pub struct Swept {
-    pub refusal: u32,
     pub verdict: Verdict,
     pub tested: usize,
     pub best: Tested,
@@ -36,12 +37,11 @@ pub fn sweep(
     order: &mut [u32],
     scratch: &mut [u32],
     entries: &mut [u64],
-) -> Swept
-    ensures value { result ≡ swept_of level block_size low_first raw.now (room_of words.old bins.old order.old scratch.old entries.old) }
-    ensures lent_where_refused { LentWhereRefused result words.old words.new × LentWhereRefused result store.old store.new × LentWhereRefused result bins.old bins.new × LentWhereRefused result order.old order.new × LentWhereRefused result scratch.old scratch.new × LentWhereRefused result entries.old entries.new }
-    ensures verdict_value { verdict_number result.verdict ≡ swept_number level block_size low_first raw.now (room_of words.old bins.old order.old scratch.old entries.old) }
+) -> Result<Swept, Refusal>
+    ensures value { as_swept result ≡ swept_of level block_size low_first raw.now (room_of words.old bins.old order.old scratch.old entries.old) }
+    ensures lent_where_refused { LentWhereRefused (as_swept result) words.old words.new × LentWhereRefused (as_swept result) store.old store.new × LentWhereRefused (as_swept result) bins.old bins.new × LentWhereRefused (as_swept result) order.old order.new × LentWhereRefused (as_swept result) scratch.old scratch.new × LentWhereRefused (as_swept result) entries.old entries.new }
+    ensures verdict_value { verdict_number (as_swept result).verdict ≡ swept_number level block_size low_first raw.now (room_of words.old bins.old order.old scratch.old entries.old) }
 {
-    let plan = configurations(block_size, raw.len());
     let room = Room {
         words: words.len(),
         bins: bins.len(),
@@ -49,42 +49,23 @@ pub fn sweep(
         scratch: scratch.len(),
         entries: entries.len(),
     };
-    let refusal = sweep_refusal(level, plan, raw.len(), room);
-    if refusal != 0 {
-        return refused(refusal);
-    }
+    let plan = sweep_plan(level, block_size, raw.len(), room)?;
     let share = level / plan.pairs as u64;
     let progress = sweep_pairs(
         plan, low_first, share, raw, words, store, bins, order, scratch, entries,
     );
-    answer(progress)
-}
-
-// Beside a refusal every number is 0, the verdict's too.
-fn refused(refusal: u32) -> Swept
-    ensures { result ≡ refused_sweep refusal }
-{
-    Swept {
-        refusal,
-        verdict: Verdict::Undecided,
-        tested: 0,
-        best: none(),
-        last: none(),
-    }
+    Ok(answer(progress))
 }
 
 // What is answered after the last pair.
 fn answer(progress: Progress) -> Swept
-    ensures { result ≡ answer_of progress }
+    ensures { as_swept (Ok result) ≡ answer_of progress }
 {
-    let best = progress.best;
-    let last = progress.last;
     Swept {
-        refusal: 0,
         verdict: verdict_of(progress.rejected, progress.below),
         tested: progress.tested,
-        best,
-        last,
+        best: progress.best,
+        last: progress.last,
     }
 }
 
@@ -101,24 +82,20 @@ fn sweep_pairs(
     scratch: &mut [u32],
     entries: &mut [u64],
 ) -> Progress
-    requires sound { Sound plan }
-    requires pairs_value { pairs_refusal plan (length raw.now) (room_of words.old bins.old order.old scratch.old entries.old) plan.pairs ≡ 0 }
-    ensures { result ≡ progress_to share plan low_first raw.now plan.pairs }
+    requires sound { Sound (as_plan (Ok plan)) }
+    requires pairs_value { pairs_refusal (as_plan (Ok plan)) (length raw.now) (room_of words.old bins.old order.old scratch.old entries.old) plan.pairs ≡ 0 }
+    ensures { result ≡ progress_to share (as_plan (Ok plan)) low_first raw.now plan.pairs }
 {
-    let blocks = plan.blocks;
-    let widths = plan.widths;
     let mut progress = begun();
-    let mut i: usize = 0;
-    while i < plan.pairs {
+    for planned in &plan.sizes[..plan.pairs] {
         let pair = Pair {
-            block_size: blocks[i],
-            width: widths[i],
+            block_size: planned.block_size,
+            width: planned.width,
             low_first,
         };
         progress = next_progress(
             progress, pair, share, raw, words, store, bins, order, scratch, entries,
         );
-        i += 1;
     }
     progress
 }

@@ -1,62 +1,59 @@
--- `refusal::pairs_refusal` meets its contract. The loop's invariant: none of the first i pairs is refused.
+-- `refusal::pairs_refusal` meets its contract. The loop's invariant: none of the pairs gone over is refused.
 use mathlib.Core.Path.{◌≡◌, sym, ap, ◌∙◌}
-use Prim.Native.Nat.{◌<◌, zero-le}
+use Prim.Native.Nat.{◌≤◌, ◌<◌}
 use native.Mathlib.Numerals.{add-one}
 use native.Mathlib.Omega.{arith}
-use lib.ListN.{get_or}
-use Rattle.sweeping.specs.Pair.{Sizes}
+use lib.ListN.{length}
+use lib.Seq.{length-take-le}
+use borrow.Author.Rules.{rules}
+use Rattle.std.specs.Prelude.{Ok}
+use Rattle.counting.specs.Refusal.{refusal_of}
+use Rattle.counting.proofs.Reasons.{some_number}
+use Rattle.judging.specs.Plan.{as_plan}
+use Rattle.judging.proofs.Checking.{handed_on}
 use Rattle.sweeping.specs.Refusal.{pairs_refusal}
+use Rattle.sweeping.proofs.Plans.{sizes_here, refused_here}
 use Rattle.sweeping.proofs.Refusals.{none_first, one_free, refused_at}
-use Rattle.sweeping.proofs.refusal.pairs_refusal.Goals.{In-loop-i}
+use Rattle.sweeping.proofs.refusal.pairs_refusal.Goals.{In-loop-pair, Start}
 use Rattle.sweeping.proofs.refusal.pairs_refusal.Goals as goal
 
-few : (d : In-loop-i) → d.loop-i.i < 7
-few d = omega (arith, d.loop-i-test.true, d.requires.sound.few)
+few : (s : Start) → s.args.plan.pairs ≤ length s.args.plan.sizes
+few s = let seven : length s.args.plan.sizes ≡ 7 = search rules in omega (arith, seven, s.requires.sound.few)
 
-sizes : (d : In-loop-i) → let p = d.args.plan in let i = d.loop-i.i in Sizes (get_or p.blocks i 0) (get_or p.widths i 0)
-sizes d = d.requires.sound.sizes d.loop-i.i d.loop-i-test.true
+within : (d : In-loop-pair) → d.loop-pair.pair-index < d.args.plan.pairs
+within d =
+    let seven : length d.args.plan.sizes ≡ 7 = search rules in
+    omega (arith, d.loop-pair-test.true, length-take-le d.args.plan.pairs d.args.plan.sizes (omega (arith, seven, d.requires.sound.few)))
 
-pub loop-i-init : goal.loop-i-init
-loop-i-init c = (zero-le, none_first _ _ _)
+pub loop-pair-init : goal.loop-pair-init
+loop-pair-init c = none_first _ _ _
 
-pub offset_bounds-blocks-i : goal.offset_bounds-blocks-i
-offset_bounds-blocks-i c = omega (arith, (let few' : c.loop-i.i < 7 = omega (arith, c.loop-i-test.true, c.requires.sound.few) in few'))
+pub pair_refusal-requires : goal.pair_refusal-requires
+pair_refusal-requires c =
+    let s = sizes_here c.args.plan c.loop-pair.pair-index (within (goal.at.pair_refusal-requires c).In-loop-pair) (few (goal.at.pair_refusal-requires c).Start) c.requires.sound in
+    record { block_size_value = s.valid; k_bound = (s.width, c.requires.words_bound) }
 
-pub bounds-blocks-i : goal.bounds-blocks-i
-bounds-blocks-i c = (let few' : c.loop-i.i < 7 = omega (arith, c.loop-i-test.true, c.requires.sound.few) in few')
-
-pub offset_bounds-widths-i : goal.offset_bounds-widths-i
-offset_bounds-widths-i c = omega (arith, (let few' : c.loop-i.i < 7 = omega (arith, c.loop-i-test.true, c.requires.sound.few) in few'))
-
-pub bounds-widths-i : goal.bounds-widths-i
-bounds-widths-i c = (let few' : c.loop-i.i < 7 = omega (arith, c.loop-i-test.true, c.requires.sound.few) in few')
-
-pub pair_refusal-refusal-requires : goal.pair_refusal-refusal-requires
-pair_refusal-refusal-requires c = record {
-  block_size_value = (sizes c).valid;
-  k_bound = ((sizes c).width, c.requires.words_bound);
-}
-
-pub returns-then-refusal-ne0 : goal.returns-then-refusal-ne0
-returns-then-refusal-ne0 c =
+pub loop-pair-preserved : goal.loop-pair-preserved
+loop-pair-preserved c =
     let a = c.args in
-    refused_at a.plan a.bytes a.room c.loop-i.i a.plan.pairs c.pair_refusal-refusal.result c.loop-i-test.true
-    c.loop-i.invariant.1 c.pair_refusal-refusal.ensures c.if-refusal-ne0.true
-
-pub overflow_add-i : goal.overflow_add-i
-overflow_add-i c = omega (arith, few (goal.at.overflow_add-i c).In-loop-i)
-
-pub loop-i-smaller : goal.loop-i-smaller
-loop-i-smaller c = omega (arith, c.loop-i-test.true)
-
-pub loop-i-preserved : goal.loop-i-preserved
-loop-i-preserved c =
-    let a = c.args in
+    let i = c.loop-pair.pair-index in
+    let w = within (goal.at.loop-pair-preserved c).In-loop-pair in
+    let f = few (goal.at.loop-pair-preserved c).Start in
     rw add-one
-    (c.loop-i-test.true, one_free a.plan a.bytes a.room c.loop-i.i c.loop-i.invariant.1 (sym c.pair_refusal-refusal.ensures ∙ c.if-refusal-ne0.false))
+    (one_free (as_plan (Ok a.plan)) a.bytes a.room i c.loop-pair.invariant
+    (sym (refused_here a.plan i w f a.bytes a.room) ∙ sym c.in_ok-pair_refusal.ensures))
+
+pub returns-in_err-pair_refusal : goal.returns-in_err-pair_refusal
+returns-in_err-pair_refusal c =
+    let a = c.args in
+    let i = c.loop-pair.pair-index in
+    let w = within (goal.at.returns-in_err-pair_refusal c).In-loop-pair in
+    let f = few (goal.at.returns-in_err-pair_refusal c).Start in
+    ap refusal_of (handed_on _ _ c.from_residual.ensures.1)
+    ∙ refused_at (as_plan (Ok a.plan)) a.bytes a.room i a.plan.pairs _ w c.loop-pair.invariant
+    (c.in_err-pair_refusal.ensures ∙ refused_here a.plan i w f a.bytes a.room) (some_number _)
 
 pub returns : goal.returns
 returns c =
-    let a = c.args in
-    let all : c.loop-i.i ≡ a.plan.pairs = omega (arith, c.loop-i.invariant.0, c.loop-i-test.false) in
-    sym c.loop-i.invariant.1 ∙ ap (pairs_refusal a.plan a.bytes a.room) all
+    let all : c.loop-pair.pair-index ≡ c.args.plan.pairs = omega (arith, c.loop-pair-test.false, length-take-le c.args.plan.pairs c.args.plan.sizes (few (goal.at.returns c).Start)) in
+    sym c.loop-pair.invariant ∙ ap (pairs_refusal (as_plan (Ok c.args.plan)) c.args.bytes c.args.room) all

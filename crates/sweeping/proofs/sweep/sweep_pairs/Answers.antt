@@ -1,97 +1,66 @@
--- `sweep::sweep_pairs` meets its contract. The loop's invariant: the progress after i pairs, and buffers as long as lent.
-use mathlib.Core.Path.{◌≡◌, refl, sym, ap, subst, ◌∙◌}
-use Prim.Native.Nat.{◌≤◌, ◌<◌, zero-le}
+-- `sweep::sweep_pairs` meets its contract. The loop's invariant: the progress after the pairs gone over.
+use mathlib.Core.Path.{◌≡◌, ap, ◌∙◌}
+use Prim.Native.Nat.{◌≤◌, ◌<◌}
 use native.Mathlib.Numerals.{add-one}
 use native.Mathlib.Omega.{arith}
-use lib.ListN.{length, get_or}
-use Rattle.sweeping.specs.Pair.{Sizes}
-use Rattle.sweeping.specs.Progress.{progress_to}
+use lib.ListN.{length}
+use lib.Seq.{length-take-le}
+use borrow.Author.Rules.{rules}
+use Rattle.std.specs.Prelude.{Ok}
+use Rattle.judging.specs.Plan.{as_plan}
+use Rattle.sweeping.specs.Progress.{next_progress, progress_to}
 use Rattle.sweeping.specs.Refusal.{pair_refusal}
 use Rattle.sweeping.specs.Sweep.{room_of}
 use Rattle.sweeping.specs.declared.refusal.Room.{Room}
+use Rattle.sweeping.proofs.Plans.{pair_here, sizes_here, refused_here, pair_is}
 use Rattle.sweeping.proofs.Progressing.{before_first, one_more, tested_few}
 use Rattle.sweeping.proofs.Refusals.{each_free}
-use Rattle.sweeping.proofs.sweep.sweep_pairs.Goals.{In-loop-i}
+use Rattle.sweeping.proofs.sweep.sweep_pairs.Goals.{In-loop-planned, Start}
 use Rattle.sweeping.proofs.sweep.sweep_pairs.Goals as goal
 
-few : (d : In-loop-i) → d.loop-i.i < 7
-few d = omega (arith, d.loop-i-test.true, d.requires.sound.few)
+few : (s : Start) → s.args.plan.pairs ≤ length s.args.plan.sizes
+few s = let seven : length s.args.plan.sizes ≡ 7 = search rules in omega (arith, seven, s.requires.sound.few)
 
-sizes : (d : In-loop-i) → let p = d.args.plan in let i = d.loop-i.i in Sizes (get_or p.blocks i 0) (get_or p.widths i 0)
-sizes d = d.requires.sound.sizes d.loop-i.i d.loop-i-test.true
+within : (d : In-loop-planned) → d.loop-planned.planned-index < d.args.plan.pairs
+within d =
+    let seven : length d.args.plan.sizes ≡ 7 = search rules in
+    omega (arith, d.loop-planned-test.true, length-take-le d.args.plan.pairs d.args.plan.sizes (omega (arith, seven, d.requires.sound.few)))
 
-pub loop-i-init : goal.loop-i-init
-loop-i-init c =
+pub loop-planned-init : goal.loop-planned-init
+loop-planned-init c =
     let a = c.args in
-    (zero-le, c.begun-progress.ensures ∙ before_first a.share a.plan a.low_first a.raw.now, refl, refl)
-
-pub offset_bounds-blocks-i : goal.offset_bounds-blocks-i
-offset_bounds-blocks-i c = omega (arith, few c)
-
-pub bounds-blocks-i : goal.bounds-blocks-i
-bounds-blocks-i c = few c
-
-pub offset_bounds-widths-i : goal.offset_bounds-widths-i
-offset_bounds-widths-i c = omega (arith, few c)
-
-pub bounds-widths-i : goal.bounds-widths-i
-bounds-widths-i c = few c
+    c.begun-progress.ensures ∙ before_first a.share (as_plan (Ok a.plan)) a.low_first a.raw.now
 
 pub next_progress-progress-requires : goal.next_progress-progress-requires
 next_progress-progress-requires c =
-    let l = c.loop-i in
+    let l = c.loop-planned in
     let a = c.args in
+    let p = as_plan (Ok a.plan) in
+    let i = l.planned-index in
     let bytes = length a.raw.now in
     let lent = room_of a.words.now a.bins.now a.order.now a.scratch.now a.entries.now in
-    let free : pair_refusal bytes (get_or a.plan.blocks l.i 0) (get_or a.plan.widths l.i 0) lent ≡ 0 = each_free a.plan bytes lent a.plan.pairs l.i c.loop-i-test.true c.requires.pairs_value in
-    let tested : l.progress.tested ≤ l.i = rw l.invariant.1 (tested_few a.share a.plan a.low_first a.raw.now l.i) in record {
-      sizes = (sizes (goal.at.next_progress-progress-requires c).In-loop-i, omega (arith, tested, few (goal.at.next_progress-progress-requires c).In-loop-i));
-      entries_value = subst (λ (r : Room). pair_refusal bytes (get_or a.plan.blocks l.i 0) (get_or a.plan.widths l.i 0) r ≡ 0) (sym l.invariant.2) free;
+    let w = within (goal.at.next_progress-progress-requires c).In-loop-planned in
+    let f = few (goal.at.next_progress-progress-requires c).Start in
+    let tested : l.progress.tested ≤ i = rw l.invariant (tested_few a.share p a.low_first a.raw.now i) in
+    let same : room_of l.words l.bins l.order l.scratch l.entries ≡ lent = λ j. record { words = l.auto.words j; bins = l.auto.bins j; order = l.auto.order j; scratch = l.auto.scratch j; entries = l.auto.entries j } in
+    record {
+      sizes = (sizes_here a.plan i w f c.requires.sound, omega (arith, tested, w, c.requires.sound.few));
+      entries_value = ap (λ (r : Room). pair_refusal bytes (pair_here a.plan i w f).block_size (pair_here a.plan i w f).width r) same ∙ refused_here a.plan i w f bytes lent ∙ each_free p bytes lent a.plan.pairs i w c.requires.pairs_value;
     }
 
-pub overflow_add-i : goal.overflow_add-i
-overflow_add-i c = omega (arith, few (goal.at.overflow_add-i c).In-loop-i)
-
-pub loop-i-smaller : goal.loop-i-smaller
-loop-i-smaller c = omega (arith, c.loop-i-test.true)
-
-pub loop-i-preserved : goal.loop-i-preserved
-loop-i-preserved c =
-    let l = c.loop-i in
+pub loop-planned-preserved : goal.loop-planned-preserved
+loop-planned-preserved c =
+    let l = c.loop-planned in
     let a = c.args in
-    let words : length c.next_progress-progress.new.words ≡ length a.words.now = omega (arith, c.next_progress-progress.auto.words, ap (λ (r : Room). r.words) l.invariant.2) in
-    let store : length c.next_progress-progress.new.store ≡ length a.store.now = omega (arith, c.next_progress-progress.auto.store, l.invariant.3) in
-    let bins : length c.next_progress-progress.new.bins ≡ length a.bins.now = omega (arith, c.next_progress-progress.auto.bins, ap (λ (r : Room). r.bins) l.invariant.2) in
-    let order : length c.next_progress-progress.new.order ≡ length a.order.now = omega (arith, c.next_progress-progress.auto.order, ap (λ (r : Room). r.order) l.invariant.2) in
-    let scratch : length c.next_progress-progress.new.scratch ≡ length a.scratch.now = omega (arith, c.next_progress-progress.auto.scratch, ap (λ (r : Room). r.scratch) l.invariant.2) in
-    let entries : length c.next_progress-progress.new.entries ≡ length a.entries.now = omega (arith, c.next_progress-progress.auto.entries, ap (λ (r : Room). r.entries) l.invariant.2) in
-    rw add-one (
-      c.loop-i-test.true,
-      c.next_progress-progress.ensures ∙ one_more a.share a.plan a.low_first a.raw.now l.i l.progress l.invariant.1,
-      λ i. record { words = words i; bins = bins i; order = order i; scratch = scratch i; entries = entries i },
-      store,
-    )
-
-pub shape_of-words : goal.shape_of-words
-shape_of-words c = ap (λ (r : Room). r.words) c.loop-i.invariant.2
-
-pub shape_of-store : goal.shape_of-store
-shape_of-store c = c.loop-i.invariant.3
-
-pub shape_of-bins : goal.shape_of-bins
-shape_of-bins c = ap (λ (r : Room). r.bins) c.loop-i.invariant.2
-
-pub shape_of-order : goal.shape_of-order
-shape_of-order c = ap (λ (r : Room). r.order) c.loop-i.invariant.2
-
-pub shape_of-scratch : goal.shape_of-scratch
-shape_of-scratch c = ap (λ (r : Room). r.scratch) c.loop-i.invariant.2
-
-pub shape_of-entries : goal.shape_of-entries
-shape_of-entries c = ap (λ (r : Room). r.entries) c.loop-i.invariant.2
+    let i = l.planned-index in
+    let w = within (goal.at.loop-planned-preserved c).In-loop-planned in
+    let f = few (goal.at.loop-planned-preserved c).Start in
+    rw add-one
+    (c.next_progress-progress.ensures ∙ (λ j. next_progress a.share a.raw.now (pair_is a.plan i w f a.low_first j) l.progress)
+    ∙ one_more a.share (as_plan (Ok a.plan)) a.low_first a.raw.now i l.progress l.invariant)
 
 pub returns : goal.returns
 returns c =
     let a = c.args in
-    let all : c.loop-i.i ≡ a.plan.pairs = omega (arith, c.loop-i.invariant.0, c.loop-i-test.false) in
-    c.loop-i.invariant.1 ∙ ap (progress_to a.share a.plan a.low_first a.raw.now) all
+    let all : c.loop-planned.planned-index ≡ a.plan.pairs = omega (arith, c.loop-planned-test.false, length-take-le a.plan.pairs a.plan.sizes (few (goal.at.returns c).Start)) in
+    c.loop-planned.invariant ∙ ap (progress_to a.share (as_plan (Ok a.plan)) a.low_first a.raw.now) all

@@ -1,5 +1,0 @@
--- `sweep::refused` meets its contract.
-use Rattle.sweeping.proofs.sweep.refused.Goals as goal
-
-pub returns : goal.returns
-returns c = rw (c.none.ensures, c.none-2.ensures)
