@@ -146,7 +146,7 @@ fn with_next(i: usize, len: usize) -> usize
     requires { i < len }
     ensures { Paired i len result }
 {
-    if i + 1 < len { i + 1 } else { i }
+    (i + 1).min(len - 1)
 }
 
 // ANDs two rows into the first words of acc.
@@ -155,7 +155,7 @@ fn and_two(acc: &mut [u64], row: &[u64], other: &[u64])
     ensures { (t : ℕ) → t < length row.now → get_or acc.new t 0 ≡ bit_and (bit_and (get_or acc.old t 0) (get_or row.now t 0)) (get_or other.now t 0) }
 {
     for t in 0..row.len() {
-        acc[t] = (acc[t] & row[t]) & other[t];
+        acc[t] = acc[t] & row[t] & other[t];
     }
 }
 
@@ -166,10 +166,9 @@ fn add_each(acc: &[u64], next: usize, words: &[u64], chunk: Chunk, counts: &mut 
     requires count_room { CountRoom chunk.lanes counts.old }
     ensures { (j : ℕ) → j < length counts.old → get_or counts.new j 0 ≡ get_or counts.old j 0 + marked_in (lane_of (word_at acc.now)) (onward (64 * chunk.start) (stored_bit chunk.stride words.now)) ((next + j) ∷ []) chunk.lanes 1 }
 {
-    for j in 0..counts.len() {
+    for (j, count) in counts.iter_mut().enumerate() {
         let row = row_part(words, next + j, chunk);
-        let more = count_with(acc, row, 0, chunk.lanes);
-        counts[j] = counts[j] + more;
+        *count += count_with(acc, row, 0, chunk.lanes);
     }
 }
 
@@ -220,9 +219,9 @@ fn add_two(acc: &[u64], row: &[u64], n: usize, bins: &mut [u32])
     ensures { Parted (word_at acc.now) row.now n 0 bins.old bins.new }
 {
     let without = count_with(acc, row, u64::MAX, n);
-    bins[0] = bins[0] + without;
+    bins[0] += without;
     let with = count_with(acc, row, 0, n);
-    bins[1] = bins[1] + with;
+    bins[1] += with;
 }
 
 // The four bins of two bits.
@@ -234,10 +233,10 @@ fn add_four(acc: &[u64], high: &[u64], low: &[u64], n: usize, bins: &mut [u32])
 {
     let lower = count_both(acc, high, u64::MAX, low, n);
     let upper = count_both(acc, high, 0, low, n);
-    bins[0] = bins[0] + lower.without;
-    bins[1] = bins[1] + lower.with;
-    bins[2] = bins[2] + upper.without;
-    bins[3] = bins[3] + upper.with;
+    bins[0] += lower.without;
+    bins[1] += lower.with;
+    bins[2] += upper.without;
+    bins[3] += upper.with;
 }
 
 // Puts acc and a row, flipped, ANDed into the first words of `to`.

@@ -198,6 +198,6 @@ fn join_bins(bins: &mut [u32], half: usize)
     ensures bins_unchanged { drop half bins.new ≡ drop half bins.old }
 {
     for v in 0..half {
-        bins[v] = bins[v] + bins[half + v];
+        bins[v] += bins[half + v];
     }
 }

@@ -10,7 +10,7 @@ pub fn reduce(bins: &mut [u32], at: usize, step: usize)
     ensures { Reduced at step step bins.old bins.new }
 {
     for i in 0..step {
-        bins[at + i] = bins[at + i] - bins[at + step + i];
+        bins[at + i] -= bins[at + step + i];
     }
 }
 

@@ -11,6 +11,7 @@ use subsets::choose::choose_up_to;
 pub fn widest(k: usize) -> usize
     ensures { result ≡ widest k }
 {
+    // Kept: k.saturating_sub(1).max(1) is no plainer, and hides the 2 from which on pairs are kept.
     if k > 2 { k - 1 } else { 1 }
 }
 
@@ -53,5 +54,6 @@ pub fn store_needed(block_size: usize, k: usize) -> usize
         return 0;
     }
     let size = store_size(block_size, k);
+    // Kept: store_needed has 0 where no store makes it so, as jimrawel_store_needed of the C interface does.
     if size > 4294967296 { 0 } else { size }
 }

@@ -2,8 +2,7 @@
 use mathlib.Core.List.{List}
 use mathlib.Core.Path.{◌≡◌, refl, ap, sym, subst, ◌∙◌}
 use lib.ListN.{length, get_or, take}
-use lib.Seq.{length-take-le, length_front}
-use borrow.Rule.Slice.PartMut.{put_mid, same_len_mid}
+use lib.Seq.{length-take-le}
 use Rattle.counting.specs.Chunk.{row_part}
 use Rattle.counting.specs.Tally.{word_at, word_with}
 use Rattle.counting.proofs.Halves.{half_size, upper_size, lower_size, rows_init, room_upper, room_lower, halves}
@@ -29,31 +28,6 @@ init_size t s = length-take-le (length s.args.bits.now - 1) s.args.bits.now (ome
 init_power : (t : ℕ) (s : Start t) → length s.args.bins.now / 2 ≡ 2 ^ length (take (length s.args.bits.now - 1) s.args.bits.now)
 init_power t s = (sized t s).1 ∙ ap (λ (k : ℕ). 2 ^ k) (sym (init_size t s))
 
-pub row_part-row-requires : goal.row_part-row-requires
-row_part-row-requires t c = record { lanes_in = c.requires.lanes_in.0; row_in = row t (goal.at.row_part-row-requires t c).Start }
-
-pub add_few-requires : goal.add_few-requires
-add_few-requires t c =
-    record {
-      in_bounds = (c.requires.in_bounds.0, omega (arith, (sized t (goal.at.add_few-requires t c).Start).0, c.if-last-lt2.true), c.requires.in_bounds.2);
-      rows_in = c.requires.rows_in;
-      lanes_in = c.requires.lanes_in;
-      count_room = c.requires.count_room;
-    }
-
-pub returns-then-last-lt2 : goal.returns-then-last-lt2
-returns-then-last-lt2 t c = c.add_few.ensures
-
-pub and_to-requires : goal.and_to-requires
-and_to-requires t c = (omega (arith, c.requires.lanes_in, c.row_part-row.ensures.len), omega (arith, c.requires.lanes_in, c.row_part-row.ensures.len, c.all_marked-part.ensures.value))
-
-pub slice_bounds-add_bins-end-2 : goal.slice_bounds-add_bins-end-2
-slice_bounds-add_bins-end-2 t c = sym (init_size t (goal.at.slice_bounds-add_bins-end-2 t c).Start)
-
-pub offset_bounds-bins-half : goal.offset_bounds-bins-half
-offset_bounds-bins-half t c =
-    omega (arith, c.requires.in_bounds, c.requires.lanes_in, row t (goal.at.offset_bounds-bins-half t c).Start, c.well_formed)
-
 pub add_bins-requires : goal.add_bins-requires
 add_bins-requires t c =
     let a = c.args in
@@ -67,16 +41,6 @@ add_bins-requires t c =
         ),
       ),
     )
-
-pub and_to-requires-2 : goal.and_to-requires-2
-and_to-requires-2 t c = (omega (arith, c.requires.lanes_in, c.row_part-row.ensures.len), omega (arith, c.requires.lanes_in, c.row_part-row.ensures.len, c.and_to.auto.to, c.all_marked-part.ensures.value))
-
-pub slice_bounds-add_bins-end-5 : goal.slice_bounds-add_bins-end-5
-slice_bounds-add_bins-end-5 t c = sym (init_size t (goal.at.slice_bounds-add_bins-end-5 t c).Start)
-
-pub slice_bounds-add_bins-end-7 : goal.slice_bounds-add_bins-end-7
-slice_bounds-add_bins-end-7 t c =
-    sym (lower_size c.args.bins.now c.add_bins.new.bins (length c.args.bins.now / 2) (length c.args.bins.now - length c.args.bins.now / 2) (sized t (goal.at.slice_bounds-add_bins-end-7 t c).Start).2)
 
 pub add_bins-requires-2 : goal.add_bins-requires-2
 add_bins-requires-2 t c =
@@ -96,15 +60,6 @@ add_bins-requires-2 t c =
         ),
       ),
     )
-
-pub shape_of-bins : goal.shape_of-bins
-shape_of-bins t c =
-    let bins = c.args.bins.now in
-    let half = length bins / 2 in
-    let upper = c.add_bins in
-    let lower = c.add_bins-2 in
-    length_front (put_mid half (length bins - half) bins upper.new.bins) lower.new.bins half lower.auto.bins
-    ∙ same_len_mid half (length bins - half) bins upper.new.bins upper.auto.bins
 
 pub returns : goal.returns
 returns t c =

@@ -14,16 +14,6 @@ use Rattle.counting.proofs.rows.add_few.Goals as goal
 power : (s : Start) (k : ℕ) → length s.args.bits.now ≡ k → length s.args.bins.now ≡ 2 ^ k
 power s k e = s.requires.in_bounds.2 ∙ ap (λ (j : ℕ). 2 ^ j) e
 
-pub row_part-low-requires : goal.row_part-low-requires
-row_part-low-requires c = record { lanes_in = c.requires.lanes_in.0; row_in = c.requires.rows_in 0 (omega (arith, c.requires.in_bounds)) }
-
-pub add_two-requires : goal.add_two-requires
-add_two-requires c =
-    record {
-      n_bound = (omega (arith, c.row_part-low.ensures.len), omega (arith, c.requires.lanes_in, c.row_part-low.ensures.len), omega (arith, c.requires.lanes_in));
-      bins_len = (power (goal.at.add_two-requires c).Start 1 c.if-bits-eq1.true, c.requires.count_room);
-    }
-
 pub returns-then-bits-eq1 : goal.returns-then-bits-eq1
 returns-then-bits-eq1 c =
     let a = c.args in
@@ -31,22 +21,6 @@ returns-then-bits-eq1 c =
     let bins' = c.add_two.new.bins in
     two_bins a.words.now a.chunk.stride a.chunk.start a.chunk.lanes a.bits.now 0 _ one refl (word_at a.acc.now) a.bins.now bins' refl (power (goal.at.returns-then-bits-eq1 c).Start 1 one)
     (subst (λ (row : List ℕ). Parted (word_at a.acc.now) row a.chunk.lanes 0 a.bins.now bins') c.row_part-low.ensures.value c.add_two.ensures)
-
-pub row_part-high-requires : goal.row_part-high-requires
-row_part-high-requires c =
-    let more = c.if-bits-eq1.false in
-    record { lanes_in = c.requires.lanes_in.0; row_in = c.requires.rows_in 1 (omega (arith, c.requires.in_bounds, more)) }
-
-pub add_four-requires : goal.add_four-requires
-add_four-requires c =
-    let more = c.if-bits-eq1.false in
-    let k : length c.args.bits.now ≡ 2 = omega (arith, c.requires.in_bounds) in
-    let high = c.row_part-high.ensures.len in
-    let low = c.row_part-low.ensures.len in
-    record {
-      n_bound = (omega (arith, high), omega (arith, c.requires.lanes_in, high), omega (arith, high, low), omega (arith, c.requires.lanes_in));
-      bins_len = (power (goal.at.add_four-requires c).Start 2 k, c.requires.count_room);
-    }
 
 pub returns : goal.returns
 returns c =

@@ -2,31 +2,19 @@
 use Prim.Native.Nat.{ℕ, ◌+◌, ◌*◌, ◌/◌, ◌<◌}
 use mathlib.Core.List.{List}
 use mathlib.Core.Path.{◌≡◌, refl, subst, ap₂, ◌∙◌}
-use native.Mathlib.Decide.{dec_lt}
 use lib.Bits.{bit_and}
-use lib.ListN.{length, get_or, take}
+use lib.ListN.{get_or, take}
 use lib.Seq.{take_all}
 use Rattle.counting.specs.Sample.{onward}
 use Rattle.counting.specs.Tally.{lane_of, word_at}
 use Rattle.counting.specs.Words.{stored_bit}
-use Rattle.counting.specs.Rows.{Paired, Marks}
+use Rattle.counting.specs.Rows.{Marks}
 use Rattle.counting.specs.Chunk.{row_part}
 use Rattle.counting.proofs.Marks.{stored_lt, and_lane, marks_none, marks_two}
 use native.Mathlib.Omega.{arith}
 use borrow.Author.Rules.{rules}
 use Rattle.counting.proofs.rows.and_rows.Goals.{After-with_next-j, After-and_two}
 use Rattle.counting.proofs.rows.and_rows.Goals as goal
-
--- a place that is paired is one of the places
-inside : (i len j : ℕ) → i < len → Paired i len j → j < len
-inside i len j h (next, last) = by_side (dec_lt (i + 1) len)
-  where
-    by_side : Dec (i + 1 < len) → j < len
-    by_side (yes below) = omega (arith, next below)
-    by_side (no above) = omega (arith, last (omega arith))
-
-second : (d : After-with_next-j) → d.with_next-j.result < length d.args.bits.now
-second d = inside d.loop-i.i (length d.args.bits.now) d.with_next-j.result d.loop-i-test.true d.with_next-j.ensures
 
 -- a turn ANDs both
 more : (d : After-and_two)
@@ -58,27 +46,8 @@ loop-i-init c =
     let a = c.args in
     (search rules, marks_none a.acc.now (onward (64 * a.chunk.start) (stored_bit a.chunk.stride a.words.now)) a.chunk.lanes)
 
-pub bounds-bits-j : goal.bounds-bits-j
-bounds-bits-j c = omega (arith, second (goal.at.bounds-bits-j c).After-with_next-j)
-
-pub row_part-row-requires : goal.row_part-row-requires
-row_part-row-requires c = record { lanes_in = c.requires.chunk_in.0.0; row_in = c.requires.rows_in c.loop-i.i c.loop-i-test.true }
-
-pub row_part-other-requires : goal.row_part-other-requires
-row_part-other-requires c = record { lanes_in = c.requires.chunk_in.0.0; row_in = c.requires.rows_in c.with_next-j.result (second (goal.at.row_part-other-requires c).After-with_next-j) }
-
-pub and_two-requires : goal.and_two-requires
-and_two-requires c = (omega (arith, c.requires.chunk_in, c.loop-i.invariant.0, c.row_part-row.ensures.len), omega (arith, c.row_part-row.ensures.len, c.row_part-other.ensures.len))
-
 pub loop-i-preserved : goal.loop-i-preserved
 loop-i-preserved c = (c.and_two.auto.acc ∙ c.loop-i.invariant.0, more (goal.at.loop-i-preserved c).After-and_two)
-
-pub returns : goal.returns
-returns c =
-    let a = c.args in
-    let at = c.loop-i in
-    let e : take at.i a.bits.now ≡ a.bits.now = take_all at.i a.bits.now (omega arith) in
-    rw e at at.invariant.1
 
 pub returns-2 : goal.returns-2
 returns-2 c =

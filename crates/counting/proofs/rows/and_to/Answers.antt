@@ -2,13 +2,9 @@
 use mathlib.Core.Path.{refl}
 use lib.ListN.{length-set}
 use Rattle.counting.specs.Tally.{word_at, word_with}
-use Rattle.counting.proofs.Marks.{stored_none, stored_more}
+use Rattle.counting.proofs.Marks.{stored_more}
 use native.Mathlib.Omega.{arith}
-use borrow.Author.Rules.{rules}
 use Rattle.counting.proofs.rows.and_to.Goals as goal
-
-pub loop-t-init : goal.loop-t-init
-loop-t-init c = (search rules, search rules, stored_none _ c.args.to.now)
 
 pub loop-t-preserved : goal.loop-t-preserved
 unfolding word_with
@@ -16,6 +12,3 @@ loop-t-preserved c =
     let now = c.loop-t in
     let a = c.args in
     (omega arith, simp length-set now.invariant.1, stored_more (word_with (word_at a.acc.now) a.row.now a.flip) a.to.now now.t now.to _ (omega arith) refl now.invariant.2)
-
-pub returns : goal.returns
-returns c t h = c.loop-t.invariant.2.0 t (omega arith)

@@ -11,28 +11,6 @@ use Rattle.counting.proofs.Stretches.{marked_from}
 use native.Mathlib.Omega.{arith}
 use Rattle.counting.proofs.rows.extend_with.Goals as goal
 
-pub unmark-requires : goal.unmark-requires
-unmark-requires c =
-    record { skip_bound = (omega (arith, c.requires.chunk_in), c.requires.mark_room.0.1); marked_from = c.requires.mark_room.1 }
-
-pub and_rows-requires : goal.and_rows-requires
-and_rows-requires c =
-    let kept = c.unmark.auto.acc in
-    record {
-      rows_in = c.requires.rows_in;
-      chunk_in = (c.requires.chunk_in, (omega (arith, kept, c.requires.mark_room.0), omega (arith, kept, c.requires.mark_room.0)));
-    }
-
-pub add_each-requires : goal.add_each-requires
-add_each-requires c =
-    let kept = c.unmark.auto.acc in
-    let kept' = c.and_rows.auto.acc in
-    record {
-      chunk_in = (c.requires.chunk_in, (omega (arith, kept, kept', c.requires.mark_room.0), omega (arith, kept, kept', c.requires.mark_room.0)));
-      counts_bound = c.requires.counts_bound;
-      count_room = c.requires.count_room;
-    }
-
 pub returns : goal.returns
 returns c =
     let added = c.add_each in

@@ -21,9 +21,6 @@ inside s =
     let b = s.args.bits.now in
     bits_below s.args.stretch.block_size (length b) b s.requires.subset (length b - 1) (omega (arith, s.requires.in_bounds))
 
-room : (s : Start) → 441 + s.args.stretch.block_size ≤ length s.args.run.now
-room s = s.requires.run.tables.tops.room
-
 own : (s : Start) → let a = s.args in get_or a.run.now (441 + last_bit a.bits.now) 0 ≡ all_set (stretch_bit a.stretch a.words.now) (span a.stretch) a.bits.now
 own s =
     let a = s.args in
@@ -47,21 +44,6 @@ kept s =
     let a = s.args in
     omega (arith, store_room a.stretch.block_size (length a.bits.now), s.requires.holds.roomy.room)
 
-pub overflow_cast-last : goal.overflow_cast-last
-overflow_cast-last c = omega (arith, inside (goal.at.overflow_cast-last c).Start, room (goal.at.overflow_cast-last c).Start, c.well_formed)
-
-pub overflow_add-count : goal.overflow_add-count
-overflow_add-count c = omega (arith, inside (goal.at.overflow_add-count c).Start, room (goal.at.overflow_add-count c).Start, c.well_formed)
-
-pub offset_bounds-run-last : goal.offset_bounds-run-last
-offset_bounds-run-last c = omega (arith, inside (goal.at.offset_bounds-run-last c).Start, room (goal.at.offset_bounds-run-last c).Start, c.well_formed)
-
-pub bounds-run-last : goal.bounds-run-last
-bounds-run-last c = omega (arith, inside (goal.at.bounds-run-last c).Start, room (goal.at.bounds-run-last c).Start)
-
-pub span-n-requires : goal.span-n-requires
-span-n-requires c = c.requires.in_bounds.2
-
 pub single_bins-requires : goal.single_bins-requires
 single_bins-requires c =
     let a = c.args in
@@ -79,24 +61,9 @@ returns-then-bits-eq1 c =
     single_split (stretch_bit a.stretch a.words.now) (stretch_lt a.stretch a.words.now) (span a.stretch) a.bits.now one a.bins.now _ _ (own (goal.at.returns-then-bits-eq1 c).Start)
     c.single_bins.auto.bins enough (rw (all_are (goal.at.returns-then-bits-eq1 c).After-span-n) at c.single_bins.ensures)
 
-pub bounds-bits-0 : goal.bounds-bits-0
-bounds-bits-0 c = omega (arith, c.requires.in_bounds)
-
-pub overflow_cast-before : goal.overflow_cast-before
-overflow_cast-before c =
-    omega (arith, among (goal.at.overflow_cast-before c).Start 0 (omega (arith, c.requires.in_bounds)), kept (goal.at.overflow_cast-before c).Start, c.well_formed)
-
-pub offset_bounds-store-before : goal.offset_bounds-store-before
-offset_bounds-store-before c =
-    omega (arith, among (goal.at.offset_bounds-store-before c).Start 0 (omega (arith, c.requires.in_bounds)), room (goal.at.offset_bounds-store-before c).Start, c.well_formed)
-
 pub bounds-store-before : goal.bounds-store-before
 bounds-store-before c =
     omega (arith, among (goal.at.bounds-store-before c).Start 0 (omega (arith, c.requires.in_bounds)), kept (goal.at.bounds-store-before c).Start)
-
-pub offset_bounds-store-last : goal.offset_bounds-store-last
-offset_bounds-store-last c =
-    omega (arith, inside (goal.at.offset_bounds-store-last c).Start, room (goal.at.offset_bounds-store-last c).Start, c.well_formed)
 
 pub bounds-store-last : goal.bounds-store-last
 bounds-store-last c =

@@ -12,16 +12,6 @@ use Rattle.layers.proofs.bins.join_bins.Goals as goal
 pub loop-v-init : goal.loop-v-init
 loop-v-init c = (search rules, refl, refl, stored_none _ c.args.bins.now)
 
-pub overflow_add-bins-in-loop-v : goal.overflow_add-bins-in-loop-v
-overflow_add-bins-in-loop-v c =
-    let rest = c.loop-v.invariant.3.1 in
-    omega (
-      arith,
-      rest c.loop-v.v (le_refl c.loop-v.v),
-      rest (c.args.half + c.loop-v.v) (omega arith),
-      c.requires.by_index c.loop-v.v c.loop-v-test.true,
-    )
-
 pub loop-v-preserved : goal.loop-v-preserved
 loop-v-preserved c =
     let a = c.args in

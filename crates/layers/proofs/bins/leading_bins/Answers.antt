@@ -16,12 +16,6 @@ use Rattle.layers.proofs.bins.leading_bins.Goals as goal
 shorter : (m : ℕ) (bits : List ℕ) → m ≤ length bits → take (m - 1) (take m bits) ≡ take (m - 1) bits
 shorter m bits h = take-take (m - 1) m bits (omega arith)
 
-pub span-requires : goal.span-requires
-span-requires c = c.requires.in_bounds.2
-
-pub bounds-bins-0 : goal.bounds-bins-0
-bounds-bins-0 c = omega (arith, pow_pos (length c.args.bits.now), c.requires.bits_in_bounds.1)
-
 pub loop-m-init : goal.loop-m-init
 loop-m-init c =
     let a = c.args in record {
@@ -38,10 +32,6 @@ loop-m-init c =
       bin_rest = refl;
       part_rest = refl;
     }
-
-pub slice_bounds-split_bins-end : goal.slice_bounds-split_bins-end
-slice_bounds-split_bins-end c =
-    sym (length-take-le c.loop-m.m c.args.bits.now c.loop-m.invariant.within)
 
 pub split_bins-requires : goal.split_bins-requires
 split_bins-requires c =
@@ -85,13 +75,6 @@ loop-m-preserved c =
       bin_rest = ap (drop (2 ^ length b)) r.ensures.bins_after ∙ counts_past bit n (take m b) c.loop-m.bins (2 ^ length b) small ∙ w.bin_rest;
       part_rest = past_larger (2 ^ length (take m b)) (2 ^ length b) _ c.loop-m.parts small r.ensures.parts_unchanged ∙ w.part_rest;
     }
-
-pub shape_of-parts : goal.shape_of-parts
-shape_of-parts c = c.loop-m.invariant.part_size
-
-pub shape_of-bins : goal.shape_of-bins
-shape_of-bins c =
-    c.loop-m.invariant.bin_size ∙ length-set c.args.bins.now 0 c.span.result
 
 pub returns : goal.returns
 returns c =

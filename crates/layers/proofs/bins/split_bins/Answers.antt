@@ -5,7 +5,7 @@ use native.Mathlib.Omega.{arith}
 use native.Mathlib.Decide.{dec_lt}
 use native.Mathlib.Nat.{pow-suc}
 use lib.ListN.{length, length-set}
-use lib.Pow.{pow_pos, pow_mono}
+use lib.Pow.{pow_pos}
 use borrow.Rule.Slice.PartMut.{mid_of, put_mid}
 use Rattle.counting.specs.Sample.{all_set}
 use Rattle.counting.specs.Stretch.{span, stretch_bit}
@@ -29,11 +29,6 @@ all_is s =
     let j : ℕ = length s.args.bits.now - 1 in
     let e : length s.args.bits.now ≡ suc j = omega (arith, s.requires.in_bounds) in
     ap (λ (x : ℕ). 2 ^ x) e ∙ pow-suc 2 j ∙ omega (arith, half_is s)
-
-small : (s : Start) → 2 ^ length s.args.bits.now ≤ 2 ^ 20
-small s =
-    let h : length s.args.bits.now ≤ 20 = omega (arith, s.requires.in_bounds) in
-    pow_mono h
 
 some : (s : Start) → 1 ≤ half s
 some s = omega (arith, half_is s, pow_pos (length s.args.bits.now - 1))
@@ -120,20 +115,8 @@ split_at d =
     ) in h)
     (let same_size' : length d.gather.new.bins ≡ length d.args.bins.now = d.gather.auto.bins ∙ length-set d.args.bins.now _ d.args.count in same_size') (d.gather.ensures.by_index _ _ d.requires.holds) d.gather.ensures.spared in upper_covered')) d.requires.halved
 
-pub overflow_mul-all : goal.overflow_mul-all
-overflow_mul-all c = omega (arith, all_is (goal.at.overflow_mul-all c).Start, small (goal.at.overflow_mul-all c).Start)
-
-pub kept_numbers-end-requires : goal.kept_numbers-end-requires
-kept_numbers-end-requires c = omega (arith, some (goal.at.kept_numbers-end-requires c).Start)
-
 pub overflow_sub-bins : goal.overflow_sub-bins
 overflow_sub-bins c = omega (arith, some (goal.at.overflow_sub-bins c).Start)
-
-pub offset_bounds-bins-all : goal.offset_bounds-bins-all
-offset_bounds-bins-all c = omega (arith, all_is (goal.at.offset_bounds-bins-all c).Start, small (goal.at.offset_bounds-bins-all c).Start)
-
-pub bounds-bins-all : goal.bounds-bins-all
-bounds-bins-all c = omega (arith, all_is (goal.at.bounds-bins-all c).Start, some (goal.at.bounds-bins-all c).Start, c.requires.bits_in_bounds.1)
 
 pub gather-requires : goal.gather-requires
 gather-requires c =
@@ -145,12 +128,6 @@ gather-requires c =
       tables = c.requires.tables;
       bits_in_bounds = (c.requires.bits_in_bounds.0, simp length-set c.requires.bits_in_bounds.1);
     }
-
-pub offset_bounds-bins-half : goal.offset_bounds-bins-half
-offset_bounds-bins-half c = omega (arith, all_is (goal.at.offset_bounds-bins-half c).Start, small (goal.at.offset_bounds-bins-half c).Start)
-
-pub slice_bounds-settle-end : goal.slice_bounds-settle-end
-slice_bounds-settle-end c = omega (arith, all_is (goal.at.slice_bounds-settle-end c).Start, same_size (goal.at.slice_bounds-settle-end c).After-gather, c.requires.bits_in_bounds.1)
 
 pub settle-requires : goal.settle-requires
 settle-requires c =
@@ -165,10 +142,6 @@ reduce-requires c =
       step_in_bounds = omega (arith, all_is (goal.at.reduce-requires c).Start, c.requires.bits_in_bounds.1, (split_at (goal.at.reduce-requires c).After-settle).size);
       by_index = (split_at (goal.at.reduce-requires c).After-settle).falls;
     }
-
-pub shape_of-bins : goal.shape_of-bins
-shape_of-bins c =
-    c.reduce.auto.bins ∙ (split_at (goal.at.shape_of-bins c).After-settle).size
 
 pub returns : goal.returns
 returns c =

@@ -5,7 +5,7 @@ use mathlib.Core.Logic.{⊎_elim, inl, inr}
 use native.Mathlib.Omega.{arith}
 use lib.Count.{ones, count_trailing_zeros}
 use lib.ListN.{length, get_or, set, length-set}
-use lib.Pow.{pow_pos, pow_mono}
+use lib.Pow.{pow_pos}
 use lib.Seq.{get_or-set_same, get_or-set_other}
 use Rattle.counting.proofs.Marks.{shifted_one}
 use Rattle.layers.proofs.Picking.{doubled, power_four, four_stays}
@@ -14,8 +14,6 @@ use Rattle.layers.proofs.Gathering.{Parts, parts_none, part_before, parts_more, 
 use Rattle.layers.proofs.gather.gather_fours.Goals.{In-loop-four, Start, else-u-end, then-u-end}
 use Rattle.layers.proofs.gather.gather_fours.Goals as goal
 
--- ---- the places of a turn, in order, and from each where the turn begins
-
 -- ---- the first number, and how many there are
 
 from_is : (s : Start) → let m = length s.args.bits.now - 1 in 1 * 2 ^ m % 2 ^ 64 ≡ 2 ^ m
@@ -23,9 +21,6 @@ from_is s = shifted_one 64 (length s.args.bits.now - 1) (omega (arith, s.require
 
 some_parts : (s : Start) → 0 < length s.args.parts.now
 some_parts s = omega (arith, pow_pos (length s.args.bits.now), s.requires.bits_in_bounds.0)
-
-at_most : (s : Start) → 2 ^ length s.args.bits.now ≤ 2 ^ 20
-at_most s = pow_mono s.requires.in_bounds.1
 
 -- ---- the four numbers of a turn
 
@@ -158,9 +153,6 @@ read d =
 room : (d : In-loop-four) → now d + 4 ≤ length d.args.bins.now
 room d = omega (arith, below d, d.requires.bits_in_bounds.1)
 
-pub bounds-parts-0 : goal.bounds-parts-0
-bounds-parts-0 c = some_parts (goal.at.bounds-parts-0 c).Start
-
 pub loop-four-init : goal.loop-four-init
 loop-four-init c =
     let a = c.args in
@@ -177,107 +169,23 @@ loop-four-init c =
           (entries_none a.block_size a.k a.bits.now a.store.now a.bins.now from),
     )
 
-pub overflow_cast-i : goal.overflow_cast-i
-overflow_cast-i c = omega (arith, below c, at_most (goal.at.overflow_cast-i c).Start)
-
-pub overflow_cast-i-in-loop-four : goal.overflow_cast-i-in-loop-four
-overflow_cast-i-in-loop-four c = omega (arith, few c)
-
-pub overflow_cast-d : goal.overflow_cast-d
-overflow_cast-d c = omega (arith, below c, at_most (goal.at.overflow_cast-d c).Start)
-
-pub overflow_cast-d-in-loop-four : goal.overflow_cast-d-in-loop-four
-overflow_cast-d-in-loop-four c = omega (arith, few c)
-
-pub overflow_add-part : goal.overflow_add-part
-overflow_add-part c = omega (arith, few c)
-
-pub overflow_mul-part : goal.overflow_mul-part
-overflow_mul-part c = omega (arith, few c)
-
-pub overflow_add-part-in-loop-four : goal.overflow_add-part-in-loop-four
-overflow_add-part-in-loop-four c = omega (arith, few c)
-
-pub offset_bounds-run-i : goal.offset_bounds-run-i
-offset_bounds-run-i c = omega (arith, few c)
-
 pub bounds-run-i : goal.bounds-run-i
 bounds-run-i c = (first (goal.at.bounds-run-i c).In-loop-four).way_in
-
-pub overflow_shl-part : goal.overflow_shl-part
-overflow_shl-part c = omega (arith, few (goal.at.overflow_shl-part c).In-loop-four)
 
 pub overflow_sub-part : goal.overflow_sub-part
 overflow_sub-part c = omega (arith, low_is (goal.at.overflow_sub-part c).In-loop-four, (now_turn (goal.at.overflow_sub-part c).In-loop-four).has)
 
-pub offset_bounds-parts-u : goal.offset_bounds-parts-u
-offset_bounds-parts-u c = omega (arith, below (goal.at.offset_bounds-parts-u c).In-loop-four, at_most (goal.at.offset_bounds-parts-u c).Start)
-
-pub bounds-parts-u : goal.bounds-parts-u
-bounds-parts-u c = omega (arith, in_parts (goal.at.bounds-parts-u c).In-loop-four)
-
 pub overflow_add-part-in-loop-four-2 : goal.overflow_add-part-in-loop-four-2
 overflow_add-part-in-loop-four-2 c = omega (arith, (first (goal.at.overflow_add-part-in-loop-four-2 c).In-loop-four).small)
-
-pub offset_bounds-parts-u-in-loop-four : goal.offset_bounds-parts-u-in-loop-four
-offset_bounds-parts-u-in-loop-four c = omega (arith, below (goal.at.offset_bounds-parts-u-in-loop-four c).In-loop-four, at_most (goal.at.offset_bounds-parts-u-in-loop-four c).Start)
-
-pub bounds-parts-u-in-loop-four : goal.bounds-parts-u-in-loop-four
-bounds-parts-u-in-loop-four c = omega (arith, in_parts (goal.at.bounds-parts-u-in-loop-four c).In-loop-four)
-
-pub overflow_add-third : goal.overflow_add-third
-overflow_add-third c = omega (arith, few (goal.at.overflow_add-third c).In-loop-four)
-
-pub offset_bounds-run-d : goal.offset_bounds-run-d
-offset_bounds-run-d c = omega (arith, few (goal.at.offset_bounds-run-d c).In-loop-four)
-
-pub bounds-run-d : goal.bounds-run-d
-bounds-run-d c = (third (goal.at.bounds-run-d c).In-loop-four).way_in
 
 pub overflow_add-third-in-loop-four : goal.overflow_add-third-in-loop-four
 overflow_add-third-in-loop-four c = omega (arith, (third (goal.at.overflow_add-third-in-loop-four c).In-loop-four).small)
 
-pub overflow_add-top : goal.overflow_add-top
-overflow_add-top c = omega (arith, few (goal.at.overflow_add-top c).In-loop-four)
-
-pub offset_bounds-run-d-in-loop-four : goal.offset_bounds-run-d-in-loop-four
-offset_bounds-run-d-in-loop-four c = omega (arith, few (goal.at.offset_bounds-run-d-in-loop-four c).In-loop-four)
-
-pub bounds-run-d-in-loop-four : goal.bounds-run-d-in-loop-four
-bounds-run-d-in-loop-four c = (third (goal.at.bounds-run-d-in-loop-four c).In-loop-four).top_in
-
-pub offset_bounds-run-d-in-loop-four-2 : goal.offset_bounds-run-d-in-loop-four-2
-offset_bounds-run-d-in-loop-four-2 c = omega (arith, few (goal.at.offset_bounds-run-d-in-loop-four-2 c).In-loop-four)
-
-pub bounds-run-d-in-loop-four-2 : goal.bounds-run-d-in-loop-four-2
-bounds-run-d-in-loop-four-2 c = (first (goal.at.bounds-run-d-in-loop-four-2 c).In-loop-four).top_in
-
 pub overflow_sub-bins : goal.overflow_sub-bins
 overflow_sub-bins c = (first (goal.at.overflow_sub-bins c).In-loop-four).under_top
 
-pub overflow_cast-bins : goal.overflow_cast-bins
-overflow_cast-bins c = omega (arith, (first (goal.at.overflow_cast-bins c).In-loop-four).inside, c.well_formed)
-
-pub offset_bounds-store-run : goal.offset_bounds-store-run
-offset_bounds-store-run c = omega (arith, (first (goal.at.offset_bounds-store-run c).In-loop-four).inside, c.well_formed)
-
 pub bounds-store-run : goal.bounds-store-run
 bounds-store-run c = (first (goal.at.bounds-store-run c).In-loop-four).inside
-
-pub offset_bounds-bins-u : goal.offset_bounds-bins-u
-offset_bounds-bins-u c = omega (arith, below (goal.at.offset_bounds-bins-u c).In-loop-four, at_most (goal.at.offset_bounds-bins-u c).Start)
-
-pub bounds-bins-u : goal.bounds-bins-u
-bounds-bins-u c = omega (arith, in_bins (goal.at.bounds-bins-u c).In-loop-four 3 (omega arith))
-
-pub overflow_add-bins : goal.overflow_add-bins
-overflow_add-bins c = omega (arith, few (goal.at.overflow_add-bins c).In-loop-four)
-
-pub offset_bounds-run-d-in-loop-four-3 : goal.offset_bounds-run-d-in-loop-four-3
-offset_bounds-run-d-in-loop-four-3 c = omega (arith, few (goal.at.offset_bounds-run-d-in-loop-four-3 c).In-loop-four)
-
-pub bounds-run-d-in-loop-four-3 : goal.bounds-run-d-in-loop-four-3
-bounds-run-d-in-loop-four-3 c = (second (goal.at.bounds-run-d-in-loop-four-3 c).In-loop-four).way_in
 
 pub overflow_add-bins-in-loop-four : goal.overflow_add-bins-in-loop-four
 overflow_add-bins-in-loop-four c = omega (arith, (second (goal.at.overflow_add-bins-in-loop-four c).In-loop-four).small)
@@ -285,20 +193,8 @@ overflow_add-bins-in-loop-four c = omega (arith, (second (goal.at.overflow_add-b
 pub overflow_sub-bins-in-loop-four : goal.overflow_sub-bins-in-loop-four
 overflow_sub-bins-in-loop-four c = (second (goal.at.overflow_sub-bins-in-loop-four c).In-loop-four).under_top
 
-pub overflow_cast-bins-in-loop-four : goal.overflow_cast-bins-in-loop-four
-overflow_cast-bins-in-loop-four c = omega (arith, (second (goal.at.overflow_cast-bins-in-loop-four c).In-loop-four).inside, c.well_formed)
-
-pub offset_bounds-store-top : goal.offset_bounds-store-top
-offset_bounds-store-top c = omega (arith, (second (goal.at.offset_bounds-store-top c).In-loop-four).inside, c.well_formed)
-
 pub bounds-store-top : goal.bounds-store-top
 bounds-store-top c = (second (goal.at.bounds-store-top c).In-loop-four).inside
-
-pub overflow_add-bins-in-loop-four-2 : goal.overflow_add-bins-in-loop-four-2
-overflow_add-bins-in-loop-four-2 c = omega (arith, below (goal.at.overflow_add-bins-in-loop-four-2 c).In-loop-four, at_most (goal.at.overflow_add-bins-in-loop-four-2 c).Start)
-
-pub offset_bounds-bins-u-in-loop-four : goal.offset_bounds-bins-u-in-loop-four
-offset_bounds-bins-u-in-loop-four c = omega (arith, below (goal.at.offset_bounds-bins-u-in-loop-four c).In-loop-four, at_most (goal.at.offset_bounds-bins-u-in-loop-four c).Start)
 
 pub bounds-bins-u-in-loop-four : goal.bounds-bins-u-in-loop-four
 bounds-bins-u-in-loop-four c = simp length-set (in_bins (goal.at.bounds-bins-u-in-loop-four c).In-loop-four 1 (omega arith))
@@ -306,44 +202,11 @@ bounds-bins-u-in-loop-four c = simp length-set (in_bins (goal.at.bounds-bins-u-i
 pub overflow_sub-bins-in-loop-four-2 : goal.overflow_sub-bins-in-loop-four-2
 overflow_sub-bins-in-loop-four-2 c = (third (goal.at.overflow_sub-bins-in-loop-four-2 c).In-loop-four).under_top
 
-pub overflow_cast-bins-in-loop-four-2 : goal.overflow_cast-bins-in-loop-four-2
-overflow_cast-bins-in-loop-four-2 c = omega (arith, (third (goal.at.overflow_cast-bins-in-loop-four-2 c).In-loop-four).inside, c.well_formed)
-
-pub offset_bounds-store-top-in-loop-four : goal.offset_bounds-store-top-in-loop-four
-offset_bounds-store-top-in-loop-four c = omega (arith, (third (goal.at.offset_bounds-store-top-in-loop-four c).In-loop-four).inside, c.well_formed)
-
 pub bounds-store-top-in-loop-four : goal.bounds-store-top-in-loop-four
 bounds-store-top-in-loop-four c = (third (goal.at.bounds-store-top-in-loop-four c).In-loop-four).inside
 
-pub overflow_add-bins-in-loop-four-3 : goal.overflow_add-bins-in-loop-four-3
-overflow_add-bins-in-loop-four-3 c = omega (arith, below (goal.at.overflow_add-bins-in-loop-four-3 c).In-loop-four, at_most (goal.at.overflow_add-bins-in-loop-four-3 c).Start)
-
-pub offset_bounds-bins-u-in-loop-four-2 : goal.offset_bounds-bins-u-in-loop-four-2
-offset_bounds-bins-u-in-loop-four-2 c = omega (arith, below (goal.at.offset_bounds-bins-u-in-loop-four-2 c).In-loop-four, at_most (goal.at.offset_bounds-bins-u-in-loop-four-2 c).Start)
-
 pub bounds-bins-u-in-loop-four-2 : goal.bounds-bins-u-in-loop-four-2
 bounds-bins-u-in-loop-four-2 c = simp length-set (in_bins (goal.at.bounds-bins-u-in-loop-four-2 c).In-loop-four 2 (omega arith))
-
-pub overflow_add-u : goal.overflow_add-u
-overflow_add-u c = omega (arith, below (goal.at.overflow_add-u c).In-loop-four, at_most (goal.at.overflow_add-u c).Start)
-
-pub overflow_add-bins-then-u-end : goal.overflow_add-bins-then-u-end
-overflow_add-bins-then-u-end c = omega (arith, few (goal.at.overflow_add-bins-then-u-end c).In-loop-four)
-
-pub offset_bounds-run-d-then-u-end : goal.offset_bounds-run-d-then-u-end
-offset_bounds-run-d-then-u-end c = omega (arith, few (goal.at.offset_bounds-run-d-then-u-end c).In-loop-four)
-
-pub bounds-run-d-then-u-end : goal.bounds-run-d-then-u-end
-bounds-run-d-then-u-end c = (fourth (goal.at.bounds-run-d-then-u-end c).In-loop-four c.if-u-end.true).top_in
-
-pub overflow_add-bins-then-u-end-2 : goal.overflow_add-bins-then-u-end-2
-overflow_add-bins-then-u-end-2 c = omega (arith, few (goal.at.overflow_add-bins-then-u-end-2 c).In-loop-four)
-
-pub offset_bounds-run-d-then-u-end-2 : goal.offset_bounds-run-d-then-u-end-2
-offset_bounds-run-d-then-u-end-2 c = omega (arith, few (goal.at.offset_bounds-run-d-then-u-end-2 c).In-loop-four)
-
-pub bounds-run-d-then-u-end-2 : goal.bounds-run-d-then-u-end-2
-bounds-run-d-then-u-end-2 c = (fourth (goal.at.bounds-run-d-then-u-end-2 c).In-loop-four c.if-u-end.true).way_in
 
 pub overflow_add-bins-then-u-end-3 : goal.overflow_add-bins-then-u-end-3
 overflow_add-bins-then-u-end-3 c = omega (arith, (fourth (goal.at.overflow_add-bins-then-u-end-3 c).In-loop-four c.if-u-end.true).small)
@@ -351,23 +214,8 @@ overflow_add-bins-then-u-end-3 c = omega (arith, (fourth (goal.at.overflow_add-b
 pub overflow_sub-bins-then-u-end : goal.overflow_sub-bins-then-u-end
 overflow_sub-bins-then-u-end c = (fourth (goal.at.overflow_sub-bins-then-u-end c).In-loop-four c.if-u-end.true).under_top
 
-pub overflow_cast-bins-then-u-end : goal.overflow_cast-bins-then-u-end
-overflow_cast-bins-then-u-end c = omega (arith, (fourth (goal.at.overflow_cast-bins-then-u-end c).In-loop-four c.if-u-end.true).inside, c.well_formed)
-
-pub offset_bounds-store-run-then-u-end : goal.offset_bounds-store-run-then-u-end
-offset_bounds-store-run-then-u-end c = omega (arith, (fourth (goal.at.offset_bounds-store-run-then-u-end c).In-loop-four c.if-u-end.true).inside, c.well_formed)
-
 pub bounds-store-run-then-u-end : goal.bounds-store-run-then-u-end
 bounds-store-run-then-u-end c = (fourth (goal.at.bounds-store-run-then-u-end c).In-loop-four c.if-u-end.true).inside
-
-pub overflow_add-bins-then-u-end-4 : goal.overflow_add-bins-then-u-end-4
-overflow_add-bins-then-u-end-4 c = omega (arith, below (goal.at.overflow_add-bins-then-u-end-4 c).In-loop-four, at_most (goal.at.overflow_add-bins-then-u-end-4 c).Start)
-
-pub offset_bounds-bins-u-then-u-end : goal.offset_bounds-bins-u-then-u-end
-offset_bounds-bins-u-then-u-end c = omega (arith, below (goal.at.offset_bounds-bins-u-then-u-end c).In-loop-four, at_most (goal.at.offset_bounds-bins-u-then-u-end c).Start)
-
-pub bounds-bins-u-then-u-end : goal.bounds-bins-u-then-u-end
-bounds-bins-u-then-u-end c = simp length-set (in_bins (goal.at.bounds-bins-u-then-u-end c).In-loop-four 3 (omega arith))
 
 pub loop-four-preserved : goal.loop-four-preserved
 loop-four-preserved c =
@@ -388,13 +236,6 @@ loop-four-preserved c =
     ] in
     let next : 4 * (c.loop-four.four + 1) ≡ u + 4 = omega arith in
     rw next (omega (arith, c.loop-four.invariant.0), more_parts d, entries)
-
-pub shape_of-parts : goal.shape_of-parts
-shape_of-parts c =
-    c.loop-four.invariant.1.size ∙ length-set c.args.parts.now 0 0
-
-pub shape_of-bins : goal.shape_of-bins
-shape_of-bins c = c.loop-four.invariant.2.size
 
 pub returns : goal.returns
 returns c =

@@ -4,7 +4,7 @@ use mathlib.Core.Path.{◌≡◌, refl, sym, ap, subst, ◌∙◌}
 use native.Mathlib.Omega.{arith}
 use lib.Count.{ones, count_trailing_zeros}
 use lib.ListN.{length, get_or, set, length-set}
-use lib.Pow.{pow_pos, pow_mono}
+use lib.Pow.{pow_pos}
 use lib.Seq.{get_or-set_same, get_or-set_other}
 use Rattle.counting.proofs.Marks.{shifted_one}
 use Rattle.subsets.specs.Rank.{ways_above}
@@ -20,9 +20,6 @@ from_is s = shifted_one 64 (length s.args.bits.now - 1) (omega (arith, s.require
 -- there are numbers, and at most 2^20
 some_parts : (s : Start) → 0 < length s.args.parts.now
 some_parts s = omega (arith, pow_pos (length s.args.bits.now), s.requires.bits_in_bounds.0)
-
-at_most : (s : Start) → 2 ^ length s.args.bits.now ≤ 2 ^ 20
-at_most s = pow_mono s.requires.in_bounds.1
 
 -- the number of a turn
 below : (d : In-loop-u) → d.loop-u.u < 2 ^ length d.args.bits.now
@@ -66,13 +63,6 @@ in_parts : (d : In-loop-u) → d.loop-u.u < length d.loop-u.parts
 in_parts d =
     omega (arith, below d, d.loop-u.invariant.2.size, length-set d.args.parts.now 0 0, d.requires.bits_in_bounds.0)
 
-in_bins : (d : In-loop-u) → d.loop-u.u < length d.loop-u.bins
-in_bins d =
-    omega (arith, below d, d.loop-u.invariant.3.size, d.requires.bits_in_bounds.1)
-
-pub bounds-parts-0 : goal.bounds-parts-0
-bounds-parts-0 c = some_parts c
-
 pub loop-u-init : goal.loop-u-init
 loop-u-init c =
     let a = c.args in
@@ -85,62 +75,17 @@ loop-u-init c =
           (entries_none a.block_size a.k a.bits.now a.store.now a.bins.now from),
     )
 
-pub overflow_cast-i : goal.overflow_cast-i
-overflow_cast-i c = omega (arith, below c, at_most (goal.at.overflow_cast-i c).Start)
-
-pub overflow_cast-i-in-loop-u : goal.overflow_cast-i-in-loop-u
-overflow_cast-i-in-loop-u c = omega (arith, (now_turn c).place, (now_turn c).width, c.requires.in_bounds, c.requires.k_bound.0)
-
-pub overflow_cast-d : goal.overflow_cast-d
-overflow_cast-d c = omega (arith, below c, at_most (goal.at.overflow_cast-d c).Start)
-
-pub overflow_cast-d-in-loop-u : goal.overflow_cast-d-in-loop-u
-overflow_cast-d-in-loop-u c = omega (arith, (now_turn c).place, (now_turn c).width, c.requires.in_bounds, c.requires.k_bound.0)
-
-pub overflow_add-part : goal.overflow_add-part
-overflow_add-part c = omega (arith, (now_turn c).place, (now_turn c).width, c.requires.in_bounds, c.requires.k_bound.0)
-
-pub overflow_mul-part : goal.overflow_mul-part
-overflow_mul-part c = omega (arith, (now_turn c).place, (now_turn c).width, c.requires.in_bounds, c.requires.k_bound.0)
-
-pub overflow_add-part-in-loop-u : goal.overflow_add-part-in-loop-u
-overflow_add-part-in-loop-u c = omega (arith, (now_turn c).place, (now_turn c).width, c.requires.in_bounds, c.requires.k_bound.0)
-
-pub offset_bounds-run-i : goal.offset_bounds-run-i
-offset_bounds-run-i c = omega (arith, (now_turn c).place, (now_turn c).width, c.requires.in_bounds, c.requires.k_bound.0)
-
 pub bounds-run-i : goal.bounds-run-i
 bounds-run-i c = omega (arith, (now_turn (goal.at.bounds-run-i c).In-loop-u).way_in)
-
-pub overflow_shl-part : goal.overflow_shl-part
-overflow_shl-part c = omega (arith, (now_turn (goal.at.overflow_shl-part c).In-loop-u).place, c.requires.in_bounds)
 
 pub overflow_sub-part : goal.overflow_sub-part
 overflow_sub-part c = omega (arith, low_is (goal.at.overflow_sub-part c).In-loop-u, (now_turn (goal.at.overflow_sub-part c).In-loop-u).has)
 
-pub bounds-parts-u : goal.bounds-parts-u
-bounds-parts-u c = omega (arith, in_parts (goal.at.bounds-parts-u c).In-loop-u)
-
 pub overflow_add-part-in-loop-u-2 : goal.overflow_add-part-in-loop-u-2
 overflow_add-part-in-loop-u-2 c = omega (arith, part_is (goal.at.overflow_add-part-in-loop-u-2 c).In-loop-u, (now_turn (goal.at.overflow_add-part-in-loop-u-2 c).In-loop-u).small)
 
-pub bounds-parts-u-in-loop-u : goal.bounds-parts-u-in-loop-u
-bounds-parts-u-in-loop-u c = omega (arith, in_parts (goal.at.bounds-parts-u-in-loop-u c).In-loop-u)
-
-pub offset_bounds-run-d : goal.offset_bounds-run-d
-offset_bounds-run-d c = omega (arith, (now_turn (goal.at.offset_bounds-run-d c).In-loop-u).width, c.requires.k_bound.0)
-
-pub bounds-run-d : goal.bounds-run-d
-bounds-run-d c = omega (arith, (now_turn (goal.at.bounds-run-d c).In-loop-u).top_in)
-
 pub overflow_sub-bins : goal.overflow_sub-bins
 overflow_sub-bins c = omega (arith, part_is (goal.at.overflow_sub-bins c).In-loop-u, (now_turn (goal.at.overflow_sub-bins c).In-loop-u).under_top)
-
-pub overflow_cast-bins : goal.overflow_cast-bins
-overflow_cast-bins c = omega (arith, part_is (goal.at.overflow_cast-bins c).In-loop-u, (now_turn (goal.at.overflow_cast-bins c).In-loop-u).inside, c.well_formed)
-
-pub offset_bounds-store-run : goal.offset_bounds-store-run
-offset_bounds-store-run c = omega (arith, part_is (goal.at.offset_bounds-store-run c).In-loop-u, (now_turn (goal.at.offset_bounds-store-run c).In-loop-u).inside, c.well_formed)
 
 pub bounds-store-run : goal.bounds-store-run
 bounds-store-run c = omega (arith, part_is (goal.at.bounds-store-run c).In-loop-u, (now_turn (goal.at.bounds-store-run c).In-loop-u).inside)
@@ -158,10 +103,6 @@ loop-u-preserved c =
           refl c.loop-u.invariant.0 (omega (arith, below (goal.at.loop-u-preserved c).In-loop-u, c.requires.bits_in_bounds.1))
           (λ bit n holds. ap (λ (x : ℕ). get_or a.store.now (get_or a.run.now (ones c.loop-u.u) 0 - x) 0) (part_is (goal.at.loop-u-preserved c).In-loop-u) ∙ t.entry bit n holds),
     )
-
-pub shape_of-parts : goal.shape_of-parts
-shape_of-parts c =
-    c.loop-u.invariant.2.size ∙ length-set c.args.parts.now 0 0
 
 pub returns : goal.returns
 returns c =

@@ -44,20 +44,6 @@ returns-then-at-eq0 c =
       run_unchanged = part_spares 441 441 (441 + B - 441) a.run.now c.copy_from_slice.new.self (omega arith) (omega (arith, c.requires.block_size_in_bounds));
     }
 
-pub overflow_cast-last : goal.overflow_cast-last
-overflow_cast-last c = omega (arith, inside (goal.at.overflow_cast-last c).Start, c.requires.in_bounds)
-
-pub overflow_add-start : goal.overflow_add-start
-overflow_add-start c = omega (arith, inside (goal.at.overflow_add-start c).Start, c.requires.in_bounds)
-
-pub slice_bounds-multi_eval-end : goal.slice_bounds-multi_eval-end
-slice_bounds-multi_eval-end c =
-    let b = c.args.bits.now in
-    sym (length-take-le (length b - 1) b (omega arith))
-
-pub offset_bounds-run-start : goal.offset_bounds-run-start
-offset_bounds-run-start c = omega (arith, inside (goal.at.offset_bounds-run-start c).Start, c.requires.in_bounds)
-
 pub slice_bounds-multi_eval-count : goal.slice_bounds-multi_eval-count
 slice_bounds-multi_eval-count c = omega (arith, inside (goal.at.slice_bounds-multi_eval-count c).Start)
 

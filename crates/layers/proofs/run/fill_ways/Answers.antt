@@ -19,15 +19,6 @@ loop-i-init c =
 pub overflow_sub-above : goal.overflow_sub-above
 overflow_sub-above c = omega (arith, room c, c.loop-i-test.true)
 
-pub offset_bounds-bits-i : goal.offset_bounds-bits-i
-offset_bounds-bits-i c = omega (arith, c.loop-i-test.true, c.requires.in_bounds)
-
-pub bounds-bits-i : goal.bounds-bits-i
-bounds-bits-i c = c.loop-i-test.true
-
-pub overflow_cast-above : goal.overflow_cast-above
-overflow_cast-above c = omega (arith, room (goal.at.overflow_cast-above c).In-loop-i, c.loop-i-test.true, c.requires.in_bounds)
-
 pub overflow_sub-above-in-loop-i : goal.overflow_sub-above-in-loop-i
 overflow_sub-above-in-loop-i c = omega (arith, room (goal.at.overflow_sub-above-in-loop-i c).In-loop-i, c.loop-i-test.true)
 
@@ -52,9 +43,6 @@ loop-i-preserved c =
       ways_more a.block_size k a.bits.now c.loop-i.i c.min.result c.loop-i.run row.new.run refl c.requires.in_bounds.1 c.loop-i-test.true (omega (arith, c.min.ensures, c.widest-most.ensures))
           (record { size = row.auto.run; filled = row.ensures.by_index_2; spared = row.ensures.by_index_3 }) c.loop-i.invariant.1,
     )
-
-pub shape_of-run : goal.shape_of-run
-shape_of-run c = c.loop-i.invariant.0
 
 pub returns : goal.returns
 returns c =

@@ -67,8 +67,6 @@ stepped c e =
     let a = c.args in
     next_apart a.stretch.block_size a.d (a.stretch.block_size - 1) c.loop-stretch.bits c.successor.new.bits c.requires.le_d.0 (let array' : c.args.d ≤ length c.loop-stretch.bits = omega (arith, c.loop-stretch.invariant.0, c.requires.le_d) in array') (omega (arith, c.requires.le_d, new_size c)) (c.successor.ensures.next e)
 
--- ---- after the step
-
 pub loop-stretch-init : goal.loop-stretch-init
 loop-stretch-init c =
     let a = c.args in
@@ -76,9 +74,6 @@ loop-stretch-init c =
       all,
       begins (stretch_bit a.stretch a.words.now) (span a.stretch) a.stretch.block_size a.d a.start a.store.now c.first-bits.result c.requires.le_d.0 c.requires.le_d.2 c.first-bits.ensures (omega (arith, all, c.requires.le_d)),
     )
-
-pub bounds-bits-d : goal.bounds-bits-d
-bounds-bits-d c = omega (arith, c.requires.le_d)
 
 pub overflow_cast-last : goal.overflow_cast-last
 overflow_cast-last c = omega (
@@ -108,15 +103,8 @@ overflow_add-end c = omega (
 pub slice_bounds-bits-end : goal.slice_bounds-bits-end
 slice_bounds-bits-end c = omega (arith, c.requires.le_d, c.loop-stretch.invariant.0)
 
-pub slice_bounds-multi_eval-length : goal.slice_bounds-multi_eval-length
-slice_bounds-multi_eval-length c =
-    sym (length-take-le (c.args.d - 1) c.loop-stretch.bits (omega (arith, c.requires.le_d, c.loop-stretch.invariant.0)))
-
 pub offset_bounds-store-at : goal.offset_bounds-store-at
 offset_bounds-store-at c = omega (arith, place (goal.at.offset_bounds-store-at c).At-loop-stretch, c.loop-stretch.invariant.1.written.size, c.well_formed)
-
-pub slice_bounds-multi_eval-count : goal.slice_bounds-multi_eval-count
-slice_bounds-multi_eval-count c = omega arith
 
 pub slice_bounds-multi_eval-end : goal.slice_bounds-multi_eval-end
 slice_bounds-multi_eval-end c = omega (arith, place (goal.at.slice_bounds-multi_eval-end c).At-loop-stretch)
@@ -135,23 +123,11 @@ multi_eval-requires c =
       counts_bound = (omega (arith, all, c.requires.le_d), rw all c.requires.stretch_in.0);
     }
 
-pub overflow_sub-bits : goal.overflow_sub-bits
-overflow_sub-bits c = omega (arith, inside (goal.at.overflow_sub-bits c).At-loop-stretch)
-
-pub overflow_cast-bits : goal.overflow_cast-bits
-overflow_cast-bits c = omega (arith, c.requires.le_d)
-
-pub bounds-bits-d-in-loop-stretch : goal.bounds-bits-d-in-loop-stretch
-bounds-bits-d-in-loop-stretch c = omega (arith, c.requires.le_d)
-
 pub successor-requires : goal.successor-requires
 successor-requires c =
     let a = c.args in
     let B = a.stretch.block_size in
     (c.requires.le_d.3, subst (Subset B a.d) (sym (last_set a.d (B - 1) c.loop-stretch.bits c.requires.le_d.0 (array (goal.at.successor-requires c).At-loop-stretch))) (run_last c.requires.le_d.0 (room (goal.at.successor-requires c).Start) c.loop-stretch.invariant.1 (inside (goal.at.successor-requires c).At-loop-stretch)).0)
-
-pub shape_of-store-then-not-successor : goal.shape_of-store-then-not-successor
-shape_of-store-then-not-successor c = (done (goal.at.shape_of-store-then-not-successor c).After-multi_eval).size
 
 pub returns-then-not-successor : goal.returns-then-not-successor
 returns-then-not-successor c =
