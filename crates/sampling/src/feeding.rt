@@ -96,11 +96,9 @@ fn next_head(head: Head, board: usize, taken: Taken) -> Head
     let mut lengths = head.lengths;
     lengths[board] = taken.left;
     Head {
-        block_size: head.block_size,
-        words: head.words,
         blocks: taken.blocks,
-        low_first: head.low_first,
         lengths,
+        ..head
     }
 }
 
