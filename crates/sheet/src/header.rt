@@ -1,26 +1,28 @@
 // The header of an input: B and k in 6 columns each, and a newline.
 ghost use Rattle.std.specs.Prelude.{◌≡◌, ◌+◌, ◌≤◌, ◌<◌, length};
+ghost use Rattle.counting.specs.Refusal.{refusal_of};
 ghost use Rattle.sheet.specs.Header.{digit_of, match_to, field_at, is_field, well_formed, input_refusal};
 
 use crate::columns::symbol_at;
+use counting::refusal::Refusal;
 
-// 15 where the input is malformed or too large, else 0.
-pub fn input_refusal(input: &[u8]) -> u32
-    ensures { result ≡ input_refusal input.now }
+// Refused as Input where the input is malformed or too large.
+pub fn input_refusal(input: &[u8]) -> Result<(), Refusal>
+    ensures { refusal_of result ≡ input_refusal input.now }
 {
     if !well_formed(input) {
-        return 15;
+        return Err(Refusal::Input);
     }
     if field_at(input, 0) > 64 {
-        return 15;
+        return Err(Refusal::Input);
     }
     if field_at(input, 6) > 8 {
-        return 15;
+        return Err(Refusal::Input);
     }
     if input.len() - 13 > 8192 {
-        return 15;
+        return Err(Refusal::Input);
     }
-    0
+    Ok(())
 }
 
 // Whether the input begins with a header. (Every header is 13 bytes long.)

@@ -62,7 +62,7 @@ fn judge(block_size: usize, k: usize, training: &[u8], testing: &[u8]) -> Judged
         block_size, k, false, training, &mut words, &mut store, &mut bins, &mut order,
     );
     let m = bin_count(k);
-    let evaluated = evaluate_histogram(finding, &order[..m], testing, &mut bins);
+    let evaluated = evaluate_histogram(finding, &order[..m], testing, &mut bins).unwrap();
     let score = evaluated.score;
     Judged {
         finding,

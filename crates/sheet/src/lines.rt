@@ -4,9 +4,11 @@ ghost use Rattle.std.specs.Float.Ieee.{to_bits};
 ghost use Rattle.std.specs.Float.{binary64};
 ghost use Rattle.sheet.specs.Columns.{line};
 ghost use Rattle.counting.specs.Buffer.{put};
+ghost use Rattle.counting.specs.Refusal.{number_of};
 ghost use Rattle.sheet.specs.Lines.{three_lines, Printed};
 
 use crate::columns::put_line;
+use counting::refusal::Refusal;
 
 // The three lines: six counts and the bits in 8 columns each, two patterns in 20; answers their length.
 pub fn put_lines(out: &mut [u8], counts: &[u64], bits: &[u64], patterns: &[u64]) -> usize
@@ -21,8 +23,8 @@ pub fn put_lines(out: &mut [u8], counts: &[u64], bits: &[u64], patterns: &[u64])
 }
 
 // A refusal alone in 8 columns, or nothing where the buffer has no room for its 9 bytes.
-pub fn put_refusal(out: &mut [u8], refusal: u32) -> usize
-    ensures { Printed (line 8 (refusal ∷ [])) out.old result out.new }
+pub fn put_refusal(out: &mut [u8], refusal: Refusal) -> usize
+    ensures { Printed (line 8 (number_of refusal ∷ [])) out.old result out.new }
 {
     if out.len() < 9 {
         return 0;

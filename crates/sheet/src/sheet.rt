@@ -1,5 +1,6 @@
 // The sheet of an input, as a caller meets it.
 ghost use Rattle.std.specs.Prelude.{◌≡◌};
+ghost use Rattle.counting.specs.Refusal.{refusal_of};
 ghost use Rattle.sheet.specs.Lines.{Printed};
 ghost use Rattle.sheet.specs.Refusal.{sheet_refusal};
 ghost use Rattle.sheet.specs.Sheet.{sheet_of};
@@ -7,6 +8,7 @@ ghost use Rattle.sheet.specs.Sheet.{sheet_of};
 use crate::header::{field_at, input_refusal};
 use crate::judgement::put_judged;
 use crate::lines::put_refusal;
+use counting::refusal::Refusal;
 use judging::split::{first_part, second_part, split_refusal};
 use subsets::bits::valid_width;
 
@@ -15,11 +17,10 @@ use subsets::bits::valid_width;
 pub fn sheet(input: &[u8], out: &mut [u8]) -> usize
     ensures { Printed (sheet_of input.now) out.old result out.new }
 {
-    let refusal = sheet_refusal(input);
-    if refusal != 0 {
-        return put_refusal(out, refusal);
+    match sheet_refusal(input) {
+        Ok(()) => put_sheet(input, out),
+        Err(refusal) => put_refusal(out, refusal),
     }
-    put_sheet(input, out)
 }
 
 // The three lines of an input that is not refused.
@@ -38,20 +39,14 @@ fn put_sheet(input: &[u8], out: &mut [u8]) -> usize
     put_judged(block_size, k, training, testing, out)
 }
 
-// 15, 1, 8, 2, or 0 where the input has a sheet.
-fn sheet_refusal(input: &[u8]) -> u32
-    ensures { result ≡ sheet_refusal input.now }
+// Refused as Input, BlockSize, FewBlocks or Width where the input has no sheet.
+fn sheet_refusal(input: &[u8]) -> Result<(), Refusal>
+    ensures { refusal_of result ≡ sheet_refusal input.now }
 {
-    let refusal = input_refusal(input);
-    if refusal != 0 {
-        return refusal;
-    }
-    let split = split_refusal(&input[13..], field_at(input, 0));
-    if split != 0 {
-        return split;
-    }
+    input_refusal(input)?;
+    split_refusal(&input[13..], field_at(input, 0))?;
     if !valid_width(field_at(input, 6)) {
-        return 2;
+        return Err(Refusal::Width);
     }
-    0
+    Ok(())
 }

@@ -1,18 +1,22 @@
 -- `judgement::judge` meets its contract: the search finds the definition's finding, and the evaluation of it is not refused.
-use mathlib.Core.Path.{◌≡◌, sym, ap, subst, ◌∙◌}
+use mathlib.Core.Path.{◌≡◌, refl, sym, ap, subst, ◌∙◌}
 use mathlib.Core.Bool.{false}
 use mathlib.Core.List.{List}
 use Prim.Native.Nat.{ℕ, ◌≤◌}
 use native.Mathlib.Omega.{arith}
 use lib.ListN.{length, take}
 use lib.Seq.{length-take-le}
-use Rattle.judging.specs.Evaluation.{evaluated_of, positive_in, z_in, score_number}
+use Rattle.std.specs.Prelude.{Result, Ok, Err}
+use Rattle.std.specs.Result.{IsOk}
+use Rattle.counting.specs.declared.refusal.Refusal.{Refusal}
+use Rattle.counting.proofs.Reasons.{some_number}
+use Rattle.judging.specs.Evaluation.{Evaluated, as_evaluated, evaluated_of, positive_in, z_in, score_number}
 use Rattle.judging.specs.Training.{trained_of, trained_order, Trainable}
-use Rattle.judging.specs.declared.evaluation.Evaluated.{Evaluated}
+use Rattle.judging.specs.declared.evaluation.Evaluated as found
 use Rattle.judging.specs.declared.evaluation.Score.TheVariants.{Z}
 use Rattle.sheet.specs.Judgement.{judged_of}
 use Rattle.sheet.proofs.Accepting.{judged_evaluated}
-use Rattle.sheet.proofs.judgement.judge.Goals.{After-train-finding}
+use Rattle.sheet.proofs.judgement.judge.Goals.{After-evaluate_histogram, After-train-finding}
 use Rattle.sheet.proofs.judgement.judge.Goals as goal
 
 -- both buffers keep their length
@@ -35,22 +39,33 @@ slice_bounds-evaluate_histogram-end c =
     let fits : m ≤ length order = omega (arith, c.bin_count-m.ensures, order_long (goal.at.slice_bounds-evaluate_histogram-end c).After-train-finding, c.requires.trainable.room.1) in
     sym (length-take-le m order fits)
 
+-- the evaluation, as a record
+tried : (d : After-evaluate_histogram) → length d.train-finding.new.bins ≡ 256 → let a = d.args in
+    let f = trained_of a.block_size false a.k a.training.now in
+    let order = trained_order a.block_size false a.k a.training.now in
+    as_evaluated d.evaluate_histogram.result ≡ record { refusal = 0; positive = positive_in f order a.testing.now; score = Z (z_in f order a.testing.now) }
+tried d long =
+    let a = d.args in
+    let trained = d.train-finding in
+    let left : List ℕ = trained.new.order in
+    let ordered : take d.bin_count-m.result left ≡ trained_order a.block_size false a.k a.training.now = ap (λ (m : ℕ). take m left) d.bin_count-m.ensures ∙ trained.ensures.ordered in
+    d.evaluate_histogram.ensures.value
+    ∙ (λ i. evaluated_of (trained.ensures.found i) (ordered i) a.testing.now (long i))
+    ∙ judged_evaluated a.block_size a.k a.training.now a.testing.now d.requires
+
+pub unwrap-evaluated-requires : goal.unwrap-evaluated-requires
+unwrap-evaluated-requires c = taken c.evaluate_histogram.result (ap (λ (e : Evaluated). e.refusal) (tried (goal.at.unwrap-evaluated-requires c).After-evaluate_histogram (bins_long (goal.at.unwrap-evaluated-requires c).After-train-finding)))
+  where
+    taken : (r : Result found.Evaluated Refusal) → (as_evaluated r).refusal ≡ 0 → IsOk r
+    taken (Ok e) z = refl
+    taken (Err r) z = absurd (some_number r z)
+
 pub returns : goal.returns
 unfolding judged_of
 returns c =
-    let tried = c.evaluate_histogram-evaluated in
-    let counted = c.bin_count-m in
-    let trained = c.train-finding in
     let a = c.args in
-    let g = c.requires in
     let f = trained_of a.block_size false a.k a.training.now in
     let order = trained_order a.block_size false a.k a.training.now in
-    let testing = a.testing.now in
-    let left : List ℕ = trained.new.order in
-    let ordered : take counted.result left ≡ order = ap (λ (m : ℕ). take m left) counted.ensures ∙ trained.ensures.ordered in
-    let told : tried.result ≡ evaluated_of trained.result (take counted.result left) testing (length trained.new.bins) = tried.ensures.value in
-    let is : tried.result ≡ record { refusal = 0; positive = positive_in f order testing; score = Z (z_in f order testing) } =
-    told ∙ (λ i. evaluated_of (trained.ensures.found i) (ordered i) testing (bins_long (goal.at.returns c).After-train-finding i))
-    ∙ judged_evaluated a.block_size a.k a.training.now testing g in
-    let z : c.number_of.result ≡ z_in f order testing = c.number_of.ensures ∙ ap (λ (e : Evaluated). score_number e.score) is in
-    λ i. record { finding = trained.ensures.found i; positive = (is i).positive; z = z i }
+    let is = ap as_evaluated (sym c.unwrap-evaluated.ensures) ∙ tried (goal.at.returns c).After-evaluate_histogram (bins_long (goal.at.returns c).After-train-finding) in
+    let z : c.number_of.result ≡ z_in f order a.testing.now = c.number_of.ensures ∙ ap (λ (e : Evaluated). score_number e.score) is in
+    λ i. record { finding = c.train-finding.ensures.found i; positive = (is i).positive; z = z i }

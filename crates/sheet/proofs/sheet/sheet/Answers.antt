@@ -1,10 +1,7 @@
 -- `sheet::sheet` meets its contract: a refusal alone, else the three lines.
+use Rattle.counting.proofs.Reasons.{some_number}
 use Rattle.sheet.proofs.Accepting.{sheet_refused}
 use Rattle.sheet.proofs.sheet.sheet.Goals as goal
 
-pub returns-then-refusal-ne0 : goal.returns-then-refusal-ne0
-returns-then-refusal-ne0 c =
-    let a = c.args in
-    let r = c.sheet_refusal-refusal in
-    let p = c.put_refusal in
-    rw (sheet_refused a.input.now r.result r.ensures c.if-refusal-ne0.true) p.ensures
+pub returns-in-Err : goal.returns-in-Err
+returns-in-Err c = rw (sheet_refused c.args.input.now _ c.in-Err.ensures (some_number _)) c.put_refusal.ensures
