@@ -7,7 +7,7 @@ use native.Mathlib.Omega.{arith}
 use mathlib.Core.Bool.{Bool, true, false, not, cond, true≢false}
 use lib.Dec.{T, leb, ltb, eqb, le→leb, nltb→le}
 use lib.Pow.{pow_pos, pow-add}
-use lib.Ieee.{Float, nan, inf, fin, binary64, up, down, odd, of_fields, of_bits, to_bits, fits, is_nan, div}
+use lib.Ieee.{Float, nan, inf, fin, binary64, up, down, odd, of_fields, of_bits, to_bits, fits, is_nan}
 use lib.Ieee.Fits.{down_pos}
 use lib.Ieee.Bits.{of_bits-to_bits, nan_bits_is, nan_bits_above, is_true}
 use lib.Ieee.Exact.{HasValue, odd_sign}
@@ -19,9 +19,11 @@ use Rattle.scoring.proofs.Places.{root_at_is}
 use Rattle.scoring.proofs.Doubles.{in_units_is, of_bits_is, normal_value, subnormal_value}
 
 -- ---- NaN
-pub nan_own : (x : Float) → x ≡ nan → x ≡ root x
-unfolding root
-nan_own x e = subst (λ (y : Float). y ≡ root y) (sym e) refl
+pub nan_own : (x : Float) → is_nan x ≡ true → x ≡ root x
+unfolding root is_nan
+nan_own nan e = refl
+nan_own (inf s) e = absurd (true≢false (sym e))
+nan_own (fin s m k) e = absurd (true≢false (sym e))
 
 -- ---- a double whose pattern is known
 pub from_bits : (x : Float) (b : ℕ) → T (fits binary64 x) → to_bits binary64 x ≡ b → of_bits binary64 b ≡ x
@@ -72,15 +74,10 @@ fields_negative (suc x) t h = go (eqb (suc x) 2047) (eqb t 0)
     go true false = nan_nan
     go false b = root_negative (odd 53 true (4503599627370496 + t) x 1074) ((4503599627370496 + t) * 2 ^ x) (2 ^ 1074) (odd_sign 53 true (4503599627370496 + t) x 1074) (mul-pos (omega arith) (pow_pos x))
 
-zero_by_zero : div binary64 (of_bits binary64 0) (of_bits binary64 0) ≡ nan
-unfolding div of_bits
-zero_by_zero = refl
-
-pub negative : (x : Float) → T (fits binary64 x) → 9223372036854775808 < to_bits binary64 x → to_bits binary64 x < 2 ^ 64 → div binary64 (of_bits binary64 0) (of_bits binary64 0) ≡ root x
+pub negative : (x : Float) → T (fits binary64 x) → 9223372036854775808 < to_bits binary64 x → to_bits binary64 x < 2 ^ 64 → nan ≡ root x
 negative x F h u =
     let b = to_bits binary64 x in
-    zero_by_zero
-    ∙ sym (fields_negative (b % 9223372036854775808 / 4503599627370496) (b % 4503599627370496) (λ (z : b % 9223372036854775808 / 4503599627370496 ≡ 0). omega arith))
+    sym (fields_negative (b % 9223372036854775808 / 4503599627370496) (b % 4503599627370496) (λ (z : b % 9223372036854775808 / 4503599627370496 ≡ 0). omega arith))
     ∙ ap (λ (s : Bool). root (of_fields binary64 s (b % 9223372036854775808 / 4503599627370496) (b % 4503599627370496))) (sym (is_true (leb 9223372036854775808 b) (le→leb 9223372036854775808 b (omega arith))))
     ∙ ap root (sym (of_bits_is b) ∙ from_bits x b F refl)
 

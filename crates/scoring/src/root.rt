@@ -74,6 +74,7 @@ fn positive_root(m0: u64, e0: u64) -> f64
 {
     let mut m = m0;
     let mut e = e0;
+    // Kept: the step is a doubling, not a count.
     while m < 4503599627370496 {
         m = m * 2;
         e = e - 1;
@@ -85,7 +86,7 @@ fn positive_root(m0: u64, e0: u64) -> f64
 pub fn root(x: f64) -> f64
     ensures { result ≡ Root.root x }
 {
-    if x != x {
+    if x.is_nan() {
         return x;
     }
     let b = f64::to_bits(x);
@@ -99,7 +100,7 @@ pub fn root(x: f64) -> f64
         return x;
     }
     if 9223372036854775808 < b {
-        return 0.0 / 0.0;
+        return f64::NAN;
     }
     let f = b / 4503599627370496;
     let t = b % 4503599627370496;

@@ -25,17 +25,9 @@ pub fn z_score(n: u32, c: u32, p: f64) -> f64
     z_over(n, c, p, deviation(n, p))
 }
 
-// |z|, by the bit of the sign: `if z < 0.0 { -z } else { z }` would leave -0.0.
+// |z|; also of -0.0, which `if z < 0.0 { -z } else { z }` would leave.
 pub fn absolute(z: f64) -> f64
     ensures { result ≡ Score.abs z }
 {
-    if z != z {
-        return z;
-    }
-    let b = f64::to_bits(z);
-    let positive = b < 9223372036854775808;
-    if positive {
-        return z;
-    }
-    f64::from_bits(b - 9223372036854775808)
+    z.abs()
 }
