@@ -1,5 +1,5 @@
 // Standard input, and room for much of it.
-ghost use Rattle.std.specs.Prelude.{◌≡◌, ◌≤◌, length, IfOk};
+ghost use Rattle.std.specs.Prelude.{◌≡◌, ◌≤◌, length, replicate, IfOk};
 
 use std::io;
 use std::io::{Read, Stdin};
@@ -20,9 +20,17 @@ pub fn read_full(stdin: Stdin, space: &mut [u8]) -> io::Result<usize>
     Ok(done)
 }
 
+// N times the entry: room for what is read, or a buffer to lend.
+pub fn filled<T: Copy, const N: usize>(entry: T) -> [T; N]
+    ensures size { N ≡ length result }
+    ensures entries { result ≡ replicate N entry }
+{
+    [entry; N]
+}
+
 // 65,536 zeros, for the bytes of a recording.
 pub fn large_buffer() -> [u8; 65536]
     ensures { 65536 ≡ length result }
 {
-    [0; 65536]
+    filled(0)
 }

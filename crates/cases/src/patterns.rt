@@ -6,14 +6,18 @@ use std::io::Stdout;
 // The double of a pattern.
 pub fn double(pattern: u64) -> f64 {
     if pattern % 9223372036854775808 > 9218868437227405312 {
-        return 0.0 / 0.0;
+        return f64::NAN;
     }
     f64::from_bits(pattern)
 }
 
 pub fn print_double(stdout: Stdout, x: f64) -> io::Result<()> {
-    if x != x {
-        return print(stdout, 18446744073709551615);
-    }
-    print(stdout, f64::to_bits(x))
+    print(
+        stdout,
+        if x.is_nan() {
+            u64::MAX
+        } else {
+            f64::to_bits(x)
+        },
+    )
 }

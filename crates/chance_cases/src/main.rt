@@ -3,20 +3,13 @@
 
 mod brackets;
 
-ghost use Rattle.std.specs.Prelude.{◌≡◌, length};
-
-use cases::input::read_full;
+use cases::input::{filled, read_full};
+use cases::reading::Reader;
 use std::io;
 
 fn main(rt: HostRuntime) -> io::Result<()> {
-    let mut space = room();
+    let mut space = filled::<u8, 65536>(0);
     let length = read_full(rt.stdin(), &mut space)?;
-    brackets::replay(rt.stdout(), &space[..length], 0)
-}
-
-// For the whole of standard input.
-fn room() -> [u8; 65536]
-    ensures { 65536 ≡ length result }
-{
-    [0; 65536]
+    let mut reader = Reader::new(&space[..length]);
+    brackets::replay(rt.stdout(), &mut reader)
 }

@@ -10,77 +10,35 @@ use counting::stretch::Stretch;
 pub fn in_block(bits: &[u32], size: usize) -> bool
     ensures { result ≡ true → InBlock bits.now size }
 {
-    let mut i = 0;
-    while i < bits.len() {
-        if place(bits[i]) / 8 >= size {
-            return false;
-        }
-        i += 1;
-    }
-    true
+    bits.iter().all(|bit| *bit as usize / 8 < size)
 }
 
 // Whether the row of every bit, of `stride` words, lies within the words.
 pub fn rows_in(bits: &[u32], words: &[u64], stride: usize) -> bool
     ensures { result ≡ true → RowsIn words.now stride bits.now }
 {
-    let mut i = 0;
-    while i < bits.len() {
-        if !row_in(place(bits[i]), words.len(), stride) {
-            return false;
-        }
-        i += 1;
-    }
-    true
+    bits.iter()
+        .all(|bit| row_in(*bit as usize, words.len(), stride))
 }
 
 fn row_in(bit: usize, words: usize, stride: usize) -> bool
     ensures { result ≡ true → bit * stride + stride ≤ words }
 {
-    if stride == 0 {
-        return true;
-    }
-    if bit >= words / stride {
-        return false;
-    }
-    true
+    stride == 0 || bit < words / stride
 }
 
 // Whether the stretch does not end before it begins, nor after the blocks that a row holds and that can be counted.
 pub fn within(stretch: Stretch) -> bool
     ensures { result ≡ true → Within stretch }
 {
-    if stretch.first > stretch.end {
-        return false;
-    }
-    if stretch.end > 16777216 {
-        return false;
-    }
-    if (stretch.end + 63) / 64 > stretch.stride {
-        return false;
-    }
-    true
-}
-
-// A bit's number as a place.
-pub fn place(bit: u32) -> usize
-    ensures { result ≡ bit }
-{
-    bit as usize
+    stretch.first <= stretch.end
+        && stretch.end <= 16777216
+        && (stretch.end + 63) / 64 <= stretch.stride
 }
 
 // Whether the bits can be counted: there are 1 to 10, for whose bins there is room, and there can be a bit past the last.
 pub fn countable(bits: &[u32]) -> bool
     ensures { result ≡ true → Countable bits.now }
 {
-    if bits.len() == 0 {
-        return false;
-    }
-    if bits.len() > 10 {
-        return false;
-    }
-    if bits[bits.len() - 1] == u32::MAX {
-        return false;
-    }
-    true
+    0 < bits.len() && bits.len() <= 10 && bits[bits.len() - 1] < u32::MAX
 }

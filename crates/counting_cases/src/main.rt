@@ -5,27 +5,15 @@ mod blocks;
 mod fitting;
 mod samples;
 
-ghost use Rattle.std.specs.Prelude.{◌≡◌, length};
-
-use cases::input::read_full;
+use cases::input::{filled, read_full};
+use cases::reading::Reader;
 use std::io;
-use std::io::Stdout;
 
+// The cases of single blocks, then those of samplers.
 fn main(rt: HostRuntime) -> io::Result<()> {
-    let mut space = room();
+    let mut space = filled::<u8, 524288>(0);
     let length = read_full(rt.stdin(), &mut space)?;
-    replay(rt.stdout(), &space[..length])
-}
-
-// For the whole of standard input.
-fn room() -> [u8; 524288]
-    ensures { 524288 ≡ length result }
-{
-    [0; 524288]
-}
-
-// All cases of a text: first those of single blocks, then those of samplers.
-fn replay(stdout: Stdout, text: &[u8]) -> io::Result<()> {
-    let at = blocks::replay(stdout, text, 0)?;
-    samples::replay(stdout, text, at)
+    let mut reader = Reader::new(&space[..length]);
+    blocks::replay(rt.stdout(), &mut reader)?;
+    samples::replay(rt.stdout(), &mut reader)
 }

@@ -1,72 +1,47 @@
-// Cases of readings: the text, the number of its bytes first; the lengths of the order and of the scratch.
-// Answer: a line with the refusal and the finding's numbers, B, the width, the division, the pattern of z, 20 bits and low_first as
-// 0 or 1; one with the order after it, and one with the scratch.
-use crate::buffers;
-use cases::entries::print_first;
+use cases::input::filled;
 use cases::patterns::print_double;
-use cases::printing::{end_line, print};
-use cases::reading::{at_most, number};
+use cases::printing::{end_line, print, print_all};
+use cases::reading::Reader;
 use exchange::reader::read_finding;
 use searching::finding::Finding;
 use std::io;
 use std::io::Stdout;
 
-// The number of cases, then the cases. Answers the place after them.
-pub fn replay(stdout: Stdout, text: &[u8], at: usize) -> io::Result<usize> {
-    let cases = number(text, at);
-    let mut from = cases.at;
-    for _ in 0..cases.value {
-        from = replay_one(stdout, text, from)?;
+// The number of cases, then the cases.
+pub fn replay(stdout: Stdout, reader: &mut Reader) -> io::Result<()> {
+    for _ in 0..reader.number() {
+        replay_one(stdout, reader)?;
     }
-    Ok(from)
+    Ok(())
 }
 
-fn replay_one(stdout: Stdout, text: &[u8], at: usize) -> io::Result<usize> {
-    let mut given = buffers::bytes();
-    let length = number(text, at);
-    let count = at_most(length.value, 8192);
-    with_text(stdout, text, length.at, &mut given[..count])
-}
-
-// Reads the text, and goes on to the buffers.
-fn with_text(stdout: Stdout, text: &[u8], at: usize, given: &mut [u8]) -> io::Result<usize> {
-    let after = cases::reading::bytes(text, at, given);
-    let order = number(text, after);
-    let scratch = number(text, order.at);
-    with_order(stdout, given, order.value, scratch.value)?;
-    Ok(scratch.at)
-}
-
-fn with_order(stdout: Stdout, given: &[u8], lent: u64, scratch: u64) -> io::Result<()> {
-    let mut order = buffers::entries();
-    let count = at_most(lent, 1280);
-    with_scratch(stdout, given, &mut order[..count], scratch)
-}
-
-fn with_scratch(stdout: Stdout, given: &[u8], order: &mut [u32], lent: u64) -> io::Result<()> {
-    let mut scratch = buffers::entries();
-    let count = at_most(lent, 1280);
-    read(stdout, given, order, &mut scratch[..count])
-}
-
-fn read(stdout: Stdout, given: &[u8], order: &mut [u32], scratch: &mut [u32]) -> io::Result<()> {
+// Every entry of the order and of the scratch is 99 before.
+fn replay_one(stdout: Stdout, reader: &mut Reader) -> io::Result<()> {
+    let mut given = filled::<u8, 8192>(0);
+    let mut order = filled::<u32, 1280>(99);
+    let mut scratch = filled::<u32, 1280>(99);
+    let count = reader.at_most(given.len());
+    let given = &mut given[..count];
+    reader.fill(given, u8::MAX);
+    let count = reader.at_most(order.len());
+    let order = &mut order[..count];
+    let count = reader.at_most(scratch.len());
+    let scratch = &mut scratch[..count];
     let reading = read_finding(given, order, scratch);
-    print(stdout, reading.refusal as u64)?;
-    let finding = reading.finding;
-    print_finding(stdout, finding)?;
+    print(stdout, reading.refusal)?;
+    print_finding(stdout, reading.finding)?;
     end_line(stdout)?;
-    print_first(stdout, order, order.len())?;
+    print_all(stdout, order)?;
     end_line(stdout)?;
-    print_first(stdout, scratch, scratch.len())?;
+    print_all(stdout, scratch)?;
     end_line(stdout)
 }
 
 fn print_finding(stdout: Stdout, finding: Finding) -> io::Result<()> {
-    print(stdout, finding.block_size as u64)?;
-    print(stdout, finding.width as u64)?;
-    print(stdout, finding.division as u64)?;
+    print(stdout, finding.block_size)?;
+    print(stdout, finding.width)?;
+    print(stdout, finding.division)?;
     print_double(stdout, finding.z)?;
-    let bits = finding.bits;
-    print_first(stdout, &bits, 20)?;
-    print(stdout, finding.low_first as u64)
+    print_all(stdout, &finding.bits)?;
+    print(stdout, u8::from(finding.low_first))
 }

@@ -1,37 +1,25 @@
-// Cases of plans: B and a number of bytes. Answer: a line with the refusal and the number of pairs, one with the seven block sizes, one with the seven widths.
-use cases::printing::{end_line, print};
-use cases::reading::number;
+use cases::printing::{end_line, print, print_all};
+use cases::reading::Reader;
 use judging::plan::configurations;
 use std::io;
 use std::io::Stdout;
 
-// The number of cases, then the cases. Answers the place after them.
-pub fn replay(stdout: Stdout, text: &[u8], at: usize) -> io::Result<usize> {
-    let cases = number(text, at);
-    let mut from = cases.at;
-    for _ in 0..cases.value {
-        from = replay_one(stdout, text, from)?;
+// The number of cases, then the cases.
+pub fn replay(stdout: Stdout, reader: &mut Reader) -> io::Result<()> {
+    for _ in 0..reader.number() {
+        replay_one(stdout, reader)?;
     }
-    Ok(from)
+    Ok(())
 }
 
-fn replay_one(stdout: Stdout, text: &[u8], at: usize) -> io::Result<usize> {
-    let size = number(text, at);
-    let length = number(text, size.at);
-    let plan = configurations(size.value as usize, length.value as usize);
-    let blocks = plan.blocks;
-    let widths = plan.widths;
-    print(stdout, plan.refusal as u64)?;
-    print(stdout, plan.pairs as u64)?;
+fn replay_one(stdout: Stdout, reader: &mut Reader) -> io::Result<()> {
+    let block_size = reader.size();
+    let plan = configurations(block_size, reader.size());
+    print(stdout, plan.refusal)?;
+    print(stdout, plan.pairs)?;
     end_line(stdout)?;
-    print_sizes(stdout, &blocks)?;
-    print_sizes(stdout, &widths)?;
-    Ok(length.at)
-}
-
-fn print_sizes(stdout: Stdout, sizes: &[usize]) -> io::Result<()> {
-    for size in sizes {
-        print(stdout, *size as u64)?;
-    }
+    print_all(stdout, &plan.blocks)?;
+    end_line(stdout)?;
+    print_all(stdout, &plan.widths)?;
     end_line(stdout)
 }

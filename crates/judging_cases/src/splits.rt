@@ -1,67 +1,33 @@
-// Cases of splits: B, 1 where there is training, else 0, and the raw bytes, their number first.
-// Answer: a line with the refusal, and one for each part with its length and its bytes.
 use cases::input::large_buffer;
-use cases::printing::{end_line, print};
-use cases::reading::{at_most, bytes, number};
+use cases::printing::{end_line, print, print_all};
+use cases::reading::Reader;
 use judging::split::{first_part, second_part, split_refusal};
 use std::io;
 use std::io::Stdout;
 
-// The number of cases, then the cases. Answers the place after them.
-pub fn replay(stdout: Stdout, text: &[u8], at: usize) -> io::Result<usize> {
-    let cases = number(text, at);
-    let mut from = cases.at;
-    for _ in 0..cases.value {
-        from = replay_one(stdout, text, from)?;
+// The number of cases, then the cases.
+pub fn replay(stdout: Stdout, reader: &mut Reader) -> io::Result<()> {
+    for _ in 0..reader.number() {
+        replay_one(stdout, reader)?;
     }
-    Ok(from)
+    Ok(())
 }
 
-fn replay_one(stdout: Stdout, text: &[u8], at: usize) -> io::Result<usize> {
+fn replay_one(stdout: Stdout, reader: &mut Reader) -> io::Result<()> {
     let mut raw = large_buffer();
-    let size = number(text, at);
-    let training = number(text, size.at);
-    let length = number(text, training.at);
-    let count = at_most(length.value, 65536);
-    replay_with(
-        stdout,
-        text,
-        length.at,
-        size.value as usize,
-        training.value == 1,
-        &mut raw[..count],
-    )
-}
-
-// Reads the raw bytes and splits them.
-fn replay_with(
-    stdout: Stdout,
-    text: &[u8],
-    at: usize,
-    block_size: usize,
-    training: bool,
-    raw: &mut [u8],
-) -> io::Result<usize> {
-    let after = bytes(text, at, raw);
-    answer(stdout, raw, block_size, training)?;
-    Ok(after)
-}
-
-fn answer(stdout: Stdout, raw: &[u8], block_size: usize, training: bool) -> io::Result<()> {
-    print(stdout, split_refusal(raw, block_size) as u64)?;
+    let block_size = reader.size();
+    let training = reader.flag();
+    let count = reader.at_most(raw.len());
+    let raw = &mut raw[..count];
+    reader.fill(raw, u8::MAX);
+    print(stdout, split_refusal(raw, block_size))?;
     end_line(stdout)?;
     print_part(stdout, first_part(raw, block_size, training))?;
     print_part(stdout, second_part(raw, block_size, training))
 }
 
 fn print_part(stdout: Stdout, part: &[u8]) -> io::Result<()> {
-    print(stdout, part.len() as u64)?;
-    for byte in part {
-        print_byte(stdout, *byte)?;
-    }
+    print(stdout, part.len())?;
+    print_all(stdout, part)?;
     end_line(stdout)
-}
-
-fn print_byte(stdout: Stdout, byte: u8) -> io::Result<()> {
-    print(stdout, byte as u64)
 }

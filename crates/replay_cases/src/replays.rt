@@ -1,151 +1,71 @@
-// Cases of replays: B, the bit order, 1 where the low bit comes first, k, how many words, bins, entries of the order and of the store are lent; the
-// number of the recording's bytes, and each; the number of lengths, and each.
-// Answer: a line with the refusal, the number of refused feeds, whether the store suffices, whether the findings agree, and the finding: B, width, 20 bits,
-// division, the pattern of z, the bit order; a line with all words, one with the whole bin buffer and one with the whole order buffer afterwards; and one with
-// how many entries of the store, past the counts that are left there where it suffices, are no longer as lent, and the sum of these counts, each times its place.
-ghost use Rattle.std.specs.Prelude.{◌≡◌, length};
-
-use cases::entries::{changed, print_first, weighed};
+use cases::entries::{changed, weighed};
 use cases::feeding::dirty;
+use cases::input::filled;
 use cases::patterns::print_double;
-use cases::printing::{end_line, print};
-use cases::reading::{at_most, bytes, number};
+use cases::printing::{end_line, print, print_all};
+use cases::reading::Reader;
 use layers::size::store_needed;
 use replay::replay::{Replayed, replay};
 use std::io;
 use std::io::Stdout;
 
-// What a replay is given beside the recording and its lengths, and the place reached in the text.
+// What a replay is given beside the recording and its lengths.
 #[derive(Clone, Copy)]
 struct Case {
     block_size: usize,
     low_first: bool,
     k: usize,
-    words: u64,
-    bins: u64,
-    order: u64,
-    store: u64,
-    at: usize,
+    words: usize,
+    bins: usize,
+    order: usize,
+    store: usize,
 }
 
 // The number of cases, then the cases.
-pub fn answer_all(stdout: Stdout, text: &[u8]) -> io::Result<()> {
-    let cases = number(text, 0);
-    let mut from = cases.at;
-    for _ in 0..cases.value {
-        from = answer_one(stdout, text, from)?;
+pub fn answer_all(stdout: Stdout, reader: &mut Reader) -> io::Result<()> {
+    for _ in 0..reader.number() {
+        answer_one(stdout, reader)?;
     }
     Ok(())
 }
 
-fn answer_one(stdout: Stdout, text: &[u8], at: usize) -> io::Result<usize> {
-    let mut recording = silence();
-    let case = read_case(text, at);
-    let size = number(text, case.at);
-    let count = at_most(size.value, 8192);
-    with_recording(stdout, text, size.at, case, &mut recording[..count])
+fn answer_one(stdout: Stdout, reader: &mut Reader) -> io::Result<()> {
+    let mut recording = filled::<u8, 8192>(0);
+    let mut lengths = [0usize; 64];
+    let case = read_case(reader);
+    let count = reader.at_most(recording.len());
+    let recording = &mut recording[..count];
+    reader.fill(recording, u8::MAX);
+    let count = reader.at_most(lengths.len());
+    let lengths = &mut lengths[..count];
+    reader.fill(lengths, usize::MAX);
+    answer(stdout, case, recording, lengths)
 }
 
-fn read_case(text: &[u8], at: usize) -> Case {
-    let size = number(text, at);
-    let bit_order = number(text, size.at);
-    let width = number(text, bit_order.at);
-    let words = number(text, width.at);
-    let bins = number(text, words.at);
-    let order = number(text, bins.at);
-    let store = number(text, order.at);
+fn read_case(reader: &mut Reader) -> Case {
     Case {
-        block_size: size.value as usize,
-        low_first: bit_order.value == 1,
-        k: width.value as usize,
-        words: words.value,
-        bins: bins.value,
-        order: order.value,
-        store: store.value,
-        at: store.at,
+        block_size: reader.size(),
+        low_first: reader.flag(),
+        k: reader.size(),
+        words: reader.size(),
+        bins: reader.size(),
+        order: reader.size(),
+        store: reader.size(),
     }
-}
-
-// Reads the recording, then the number of lengths.
-fn with_recording(
-    stdout: Stdout,
-    text: &[u8],
-    at: usize,
-    case: Case,
-    recording: &mut [u8],
-) -> io::Result<usize> {
-    let mut lengths = no_lengths();
-    let size = number(text, bytes(text, at, recording));
-    let count = at_most(size.value, 64);
-    with_lengths(
-        stdout,
-        text,
-        size.at,
-        case,
-        recording,
-        &mut lengths[..count],
-    )
-}
-
-// Reads the lengths, and answers.
-fn with_lengths(
-    stdout: Stdout,
-    text: &[u8],
-    at: usize,
-    case: Case,
-    recording: &[u8],
-    lengths: &mut [usize],
-) -> io::Result<usize> {
-    let after = read_lengths(text, at, lengths);
-    lend(stdout, case, recording, lengths)?;
-    Ok(after)
-}
-
-// Fills `to` with the next numbers; answers the place after them.
-fn read_lengths(text: &[u8], at: usize, to: &mut [usize]) -> usize {
-    let mut from = at;
-    let mut i = 0;
-    while i < to.len() {
-        let next = number(text, from);
-        to[i] = next.value as usize;
-        from = next.at;
-        i += 1;
-    }
-    from
 }
 
 // Lends as many entries as the case says.
-fn lend(stdout: Stdout, case: Case, recording: &[u8], lengths: &[usize]) -> io::Result<()> {
+fn answer(stdout: Stdout, case: Case, recording: &[u8], lengths: &[usize]) -> io::Result<()> {
     let mut words = dirty();
-    let mut counts = store();
-    let mut bins = buffer();
-    let mut order = buffer();
-    let a = at_most(case.words, 8192);
-    let b = at_most(case.store, 8448);
-    let c = at_most(case.bins, 512);
-    let d = at_most(case.order, 512);
-    answer(
-        stdout,
-        case,
-        recording,
-        lengths,
-        &mut words[..a],
-        &mut counts[..b],
-        &mut bins[..c],
-        &mut order[..d],
-    )
-}
-
-fn answer(
-    stdout: Stdout,
-    case: Case,
-    recording: &[u8],
-    lengths: &[usize],
-    words: &mut [u64],
-    store: &mut [u32],
-    bins: &mut [u32],
-    order: &mut [u32],
-) -> io::Result<()> {
+    // Room for the single bits of a block of 4,096 or the pairs of one of 64, and entries past them.
+    let mut store = filled::<u32, 8448>(99);
+    // Room for the bins of 8 bits and as many entries past them.
+    let mut bins = filled::<u32, 512>(99);
+    let mut order = filled::<u32, 512>(99);
+    let words = &mut words[..case.words.min(8192)];
+    let store = &mut store[..case.store.min(8448)];
+    let bins = &mut bins[..case.bins.min(512)];
+    let order = &mut order[..case.order.min(512)];
     let replayed = replay(
         case.block_size,
         case.low_first,
@@ -158,70 +78,31 @@ fn answer(
         order,
     );
     print_replayed(stdout, replayed)?;
-    print_words(stdout, words)?;
+    print_all(stdout, words)?;
+    end_line(stdout)?;
     print_all(stdout, bins)?;
+    end_line(stdout)?;
     print_all(stdout, order)?;
+    end_line(stdout)?;
     let kept = kept_entries(replayed.layered, case.block_size, case.k);
-    print(stdout, changed(store, kept) as u64)?;
+    print(stdout, changed(store, kept))?;
     print(stdout, weighed(store, kept))?;
     end_line(stdout)
 }
 
 fn print_replayed(stdout: Stdout, replayed: Replayed) -> io::Result<()> {
     let finding = replayed.finding;
-    let bits = finding.bits;
-    print(stdout, replayed.refusal as u64)?;
-    print(stdout, replayed.refused as u64)?;
-    print(stdout, replayed.layered as u64)?;
-    print(stdout, replayed.agree as u64)?;
-    print(stdout, finding.block_size as u64)?;
-    print(stdout, finding.width as u64)?;
-    print_first(stdout, &bits, 20)?;
-    print(stdout, finding.division as u64)?;
+    print(stdout, replayed.refusal)?;
+    print(stdout, replayed.refused)?;
+    print(stdout, u8::from(replayed.layered))?;
+    print(stdout, u8::from(replayed.agree))?;
+    print(stdout, finding.block_size)?;
+    print(stdout, finding.width)?;
+    print_all(stdout, &finding.bits)?;
+    print(stdout, finding.division)?;
     print_double(stdout, finding.z)?;
-    print(stdout, finding.low_first as u64)?;
+    print(stdout, u8::from(finding.low_first))?;
     end_line(stdout)
-}
-
-// A line with all words.
-fn print_words(stdout: Stdout, words: &[u64]) -> io::Result<()> {
-    for word in words {
-        print(stdout, *word)?;
-    }
-    end_line(stdout)
-}
-
-// A line with all entries.
-fn print_all(stdout: Stdout, entries: &[u32]) -> io::Result<()> {
-    print_first(stdout, entries, entries.len())?;
-    end_line(stdout)
-}
-
-// Room for a recording.
-fn silence() -> [u8; 8192]
-    ensures { 8192 ≡ length result }
-{
-    [0; 8192]
-}
-
-fn no_lengths() -> [usize; 64]
-    ensures { 64 ≡ length result }
-{
-    [0; 64]
-}
-
-// Room for the bins of 8 bits and as many entries past them.
-fn buffer() -> [u32; 512]
-    ensures { 512 ≡ length result }
-{
-    [99; 512]
-}
-
-// Room for the single bits of a block of 4,096 or the pairs of one of 64, and entries past them.
-fn store() -> [u32; 8448]
-    ensures { 8448 ≡ length result }
-{
-    [99; 8448]
 }
 
 // How many counts are left in the store: none where it does not suffice.

@@ -3,20 +3,13 @@
 
 mod samplers;
 
-ghost use Rattle.std.specs.Prelude.{◌≡◌, length};
-
-use cases::input::read_full;
+use cases::input::{filled, read_full};
+use cases::reading::Reader;
 use std::io;
 
 fn main(rt: HostRuntime) -> io::Result<()> {
-    let mut space = room();
+    let mut space = filled::<u8, 196608>(0);
     let length = read_full(rt.stdin(), &mut space)?;
-    samplers::replay(rt.stdout(), &space[..length])
-}
-
-// For the whole of standard input.
-fn room() -> [u8; 196608]
-    ensures { 196608 ≡ length result }
-{
-    [0; 196608]
+    let mut reader = Reader::new(&space[..length]);
+    samplers::replay(rt.stdout(), &mut reader)
 }

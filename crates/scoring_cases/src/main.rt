@@ -4,28 +4,15 @@
 mod roots;
 mod scores;
 
-ghost use Rattle.std.specs.Prelude.{◌≡◌, length};
-
-use cases::input::read_full;
+use cases::input::{filled, read_full};
+use cases::reading::Reader;
 use std::io;
-use std::io::Stdout;
 
+// First the roots, then the scores.
 fn main(rt: HostRuntime) -> io::Result<()> {
-    let mut space = room();
+    let mut space = filled::<u8, 262144>(0);
     let length = read_full(rt.stdin(), &mut space)?;
-    replay(rt.stdout(), &space[..length])
-}
-
-// For the whole of standard input.
-fn room() -> [u8; 262144]
-    ensures { 262144 ≡ length result }
-{
-    [0; 262144]
-}
-
-// All cases of a text: first the roots, then the scores.
-fn replay(stdout: Stdout, text: &[u8]) -> io::Result<()> {
-    let at = roots::replay(stdout, text, 0)?;
-    scores::replay(stdout, text, at)?;
-    Ok(())
+    let mut reader = Reader::new(&space[..length]);
+    roots::replay(rt.stdout(), &mut reader)?;
+    scores::replay(rt.stdout(), &mut reader)
 }

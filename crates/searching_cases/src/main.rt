@@ -5,28 +5,16 @@ mod rankings;
 mod ranks;
 mod searches;
 
-ghost use Rattle.std.specs.Prelude.{◌≡◌, length};
-
-use cases::input::read_full;
+use cases::input::{filled, read_full};
+use cases::reading::Reader;
 use std::io;
-use std::io::Stdout;
 
+// The ranks of subsets, the rankings of counts, the searches.
 fn main(rt: HostRuntime) -> io::Result<()> {
-    let mut space = room();
+    let mut space = filled::<u8, 655360>(0);
     let length = read_full(rt.stdin(), &mut space)?;
-    replay(rt.stdout(), &space[..length])
-}
-
-// For the whole of standard input.
-fn room() -> [u8; 655360]
-    ensures { 655360 ≡ length result }
-{
-    [0; 655360]
-}
-
-// All cases of a text: the ranks of subsets, the rankings of counts, the searches.
-fn replay(stdout: Stdout, text: &[u8]) -> io::Result<()> {
-    let at = ranks::replay(stdout, text, 0)?;
-    let rest = rankings::replay(stdout, text, at)?;
-    searches::replay(stdout, text, rest)
+    let mut reader = Reader::new(&space[..length]);
+    ranks::replay(rt.stdout(), &mut reader)?;
+    rankings::replay(rt.stdout(), &mut reader)?;
+    searches::replay(rt.stdout(), &mut reader)
 }

@@ -1,28 +1,24 @@
-// Cases of ranks: B, k and 20 bits, of which those past k mean nothing. Answer: the refusal and the rank.
 use cases::printing::{end_line, print};
-use cases::reading::{number, numbers};
+use cases::reading::Reader;
 use std::io;
 use std::io::Stdout;
 use subsets::rank::compute_index;
 
-// The number of cases, then the cases. Answers the place after them.
-pub fn replay(stdout: Stdout, text: &[u8], at: usize) -> io::Result<usize> {
-    let cases = number(text, at);
-    let mut from = cases.at;
-    for _ in 0..cases.value {
-        from = replay_one(stdout, text, from)?;
+// The number of cases, then the cases.
+pub fn replay(stdout: Stdout, reader: &mut Reader) -> io::Result<()> {
+    for _ in 0..reader.number() {
+        replay_one(stdout, reader)?;
     }
-    Ok(from)
+    Ok(())
 }
 
-fn replay_one(stdout: Stdout, text: &[u8], at: usize) -> io::Result<usize> {
+fn replay_one(stdout: Stdout, reader: &mut Reader) -> io::Result<()> {
     let mut bits = [0u32; 20];
-    let size = number(text, at);
-    let width = number(text, size.at);
-    let after = numbers(text, width.at, &mut bits);
-    let ranked = compute_index(size.value as usize, width.value as usize, bits);
-    print(stdout, ranked.refusal as u64)?;
-    print(stdout, ranked.rank as u64)?;
-    end_line(stdout)?;
-    Ok(after)
+    let block_size = reader.size();
+    let width = reader.size();
+    reader.fill(&mut bits, u32::MAX);
+    let ranked = compute_index(block_size, width, bits);
+    print(stdout, ranked.refusal)?;
+    print(stdout, ranked.rank)?;
+    end_line(stdout)
 }

@@ -4,20 +4,13 @@
 mod recordings;
 mod sweeps;
 
-ghost use Rattle.std.specs.Prelude.{◌≡◌, length};
-
-use cases::input::read_full;
+use cases::input::{filled, read_full};
+use cases::reading::Reader;
 use std::io;
 
 fn main(rt: HostRuntime) -> io::Result<()> {
-    let mut space = room();
+    let mut space = filled::<u8, 131072>(0);
     let length = read_full(rt.stdin(), &mut space)?;
-    sweeps::answer_all(rt.stdout(), &space[..length])
-}
-
-// For the whole of standard input.
-fn room() -> [u8; 131072]
-    ensures { 131072 ≡ length result }
-{
-    [0; 131072]
+    let mut reader = Reader::new(&space[..length]);
+    sweeps::answer_all(rt.stdout(), &mut reader)
 }
