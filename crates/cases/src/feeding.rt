@@ -2,19 +2,21 @@
 ghost use Rattle.std.specs.Prelude.{◌≡◌, length};
 
 use crate::earlier::lay;
-use crate::input::{filled, large_buffer};
+use crate::input::large_buffer;
 use crate::printing::{end_line, print};
 use crate::reading::Reader;
+use counting::buffer::filled;
+use counting::refusal::{Refusal, refusal_of};
 use sampling::carrying::{Earlier, carry_over};
 use sampling::feeding::feed;
-use sampling::sampler::{Head, Sampler, start};
+use sampling::sampler::{Head, Sampler, no_sampler, start};
 use std::io;
 use std::io::Stdout;
 
-// The refusal of the start or the carry-over, and the sampler last returned.
+// Whether the start or the carry-over was refused, and the sampler last returned.
 #[derive(Clone, Copy)]
 pub struct Recorded {
-    pub refusal: u32,
+    pub begun: Result<(), Refusal>,
     pub sampler: Sampler,
 }
 
@@ -35,26 +37,30 @@ pub fn record(
     low_first: bool,
     words: &mut [u64],
 ) -> io::Result<Recorded> {
-    let mut recorded = begin(reader, block_size, low_first, words);
-    print(stdout, recorded.refusal)?;
+    let begun = begin(reader, block_size, low_first, words);
+    print(stdout, refusal_of(&begun))?;
+    let mut sampler = begun.unwrap_or(no_sampler());
     for _ in 0..reader.number() {
-        recorded.sampler = feed_one(stdout, reader, recorded.sampler, words)?;
+        sampler = feed_one(stdout, reader, sampler, words)?;
     }
-    let head = recorded.sampler.head;
-    print(stdout, u8::from(head.low_first))?;
+    print(stdout, u8::from(sampler.head.low_first))?;
     end_line(stdout)?;
-    Ok(recorded)
+    Ok(Recorded {
+        begun: begun.map(|_| ()),
+        sampler,
+    })
 }
 
 // 0 for a start; 1 for a carry-over, with what the earlier sampler says of its words and of the bytes taken, whether all words are ones before they are laid,
 // and the bytes that are laid.
-fn begin(reader: &mut Reader, block_size: usize, low_first: bool, words: &mut [u64]) -> Recorded {
+fn begin(
+    reader: &mut Reader,
+    block_size: usize,
+    low_first: bool,
+    words: &mut [u64],
+) -> Result<Sampler, Refusal> {
     if reader.number() == 0 {
-        let started = start(block_size, low_first, words);
-        return Recorded {
-            refusal: started.refusal,
-            sampler: started.sampler,
-        };
+        return start(block_size, low_first, words);
     }
     let earlier = Earlier {
         block_size,
@@ -66,18 +72,14 @@ fn begin(reader: &mut Reader, block_size: usize, low_first: bool, words: &mut [u
 }
 
 // Reads the bytes, lays them and carries them over.
-fn carry(reader: &mut Reader, earlier: Earlier, words: &mut [u64]) -> Recorded {
+fn carry(reader: &mut Reader, earlier: Earlier, words: &mut [u64]) -> Result<Sampler, Refusal> {
     let mut space = large_buffer();
     let ones = reader.flag();
     let count = reader.at_most(space.len());
     let piece = &mut space[..count];
     reader.fill(piece, u8::MAX);
     lay(piece, earlier.block_size, earlier.low_first, ones, words);
-    let carried = carry_over(earlier, words);
-    Recorded {
-        refusal: carried.refusal,
-        sampler: carried.sampler,
-    }
+    carry_over(earlier, words)
 }
 
 // Reads a piece and feeds it.
@@ -93,10 +95,11 @@ fn feed_one(
     let piece = &mut space[..count];
     reader.fill(piece, u8::MAX);
     let fed = feed(sampler, words, board, piece);
-    print(stdout, fed.refusal)?;
-    print(stdout, fed.sampler.head.blocks)?;
-    print(stdout, pending(fed.sampler.head, board))?;
-    Ok(fed.sampler)
+    print(stdout, refusal_of(&fed))?;
+    let next = fed.unwrap_or(sampler);
+    print(stdout, next.head.blocks)?;
+    print(stdout, pending(next.head, board))?;
+    Ok(next)
 }
 
 // How many unfinished bytes a board has; 0 where there is none such.

@@ -1,6 +1,7 @@
 // Standard input, and room for much of it.
-ghost use Rattle.std.specs.Prelude.{◌≡◌, ◌≤◌, length, replicate, IfOk};
+ghost use Rattle.std.specs.Prelude.{◌≡◌, ◌≤◌, length, IfOk};
 
+use counting::buffer::filled;
 use std::io;
 use std::io::{Read, Stdin};
 
@@ -18,14 +19,6 @@ pub fn read_full(stdin: Stdin, space: &mut [u8]) -> io::Result<usize>
         done += read;
     }
     Ok(done)
-}
-
-// N times the entry: room for what is read, or a buffer to lend.
-pub fn filled<T: Copy, const N: usize>(entry: T) -> [T; N]
-    ensures size { N ≡ length result }
-    ensures entries { result ≡ replicate N entry }
-{
-    [entry; N]
 }
 
 // 65,536 zeros, for the bytes of a recording.

@@ -1,7 +1,8 @@
-use cases::input::filled;
 use cases::printing::{end_line, print, print_all};
 use cases::reading::Reader;
-use chance::bracket::bracket;
+use chance::bracket::{Ends, bracket};
+use counting::buffer::filled;
+use counting::refusal::refusal_of;
 use std::io;
 use std::io::Stdout;
 
@@ -23,9 +24,10 @@ fn replay_one(stdout: Stdout, reader: &mut Reader) -> io::Result<()> {
     let count = reader.at_most(scratch.len());
     let scratch = &mut scratch[..count];
     let bracketed = bracket(n, c, k, d, scratch);
-    print(stdout, bracketed.refusal)?;
-    print(stdout, bracketed.low)?;
-    print(stdout, bracketed.high)?;
+    print(stdout, refusal_of(&bracketed))?;
+    let ends = bracketed.unwrap_or(Ends { low: 0, high: 0 });
+    print(stdout, ends.low)?;
+    print(stdout, ends.high)?;
     end_line(stdout)?;
     print_all(stdout, scratch)?;
     end_line(stdout)

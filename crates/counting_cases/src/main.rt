@@ -5,8 +5,9 @@ mod blocks;
 mod fitting;
 mod samples;
 
-use cases::input::{filled, read_full};
+use cases::input::read_full;
 use cases::reading::Reader;
+use counting::buffer::filled;
 use std::io;
 
 // The cases of single blocks, then those of samplers.

@@ -10,10 +10,10 @@ ghost use Rattle.counting_cases.specs.Fitting.{Countable};
 
 use crate::fitting::{countable, rows_in, within};
 use cases::feeding::{dirty, record};
-use cases::input::filled;
 use cases::printing::{end_line, print, print_all};
 use cases::reading::Reader;
 use counting::block::bin_count;
+use counting::buffer::filled;
 use counting::rows::{multi_eval, multi_eval_neg};
 use counting::stretch::Stretch;
 use sampling::sampler::blocks;
@@ -35,7 +35,7 @@ fn replay_one(stdout: Stdout, reader: &mut Reader) -> io::Result<()> {
     let count = reader.at_most(words.len());
     let words = &mut words[..count];
     let recorded = record(stdout, reader, block_size, low_first, words)?;
-    if recorded.refusal != 0 {
+    if recorded.begun.is_err() {
         return Ok(());
     }
     let stride = words.len().checked_div(block_size).unwrap_or(0);

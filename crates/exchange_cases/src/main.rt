@@ -4,8 +4,9 @@
 mod readings;
 mod writings;
 
-use cases::input::{filled, read_full};
+use cases::input::read_full;
 use cases::reading::Reader;
+use counting::buffer::filled;
 use std::io;
 
 // The readings, the writings.

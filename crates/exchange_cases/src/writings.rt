@@ -1,7 +1,7 @@
-use cases::input::filled;
 use cases::patterns::double;
 use cases::printing::{end_line, print, print_all};
 use cases::reading::Reader;
+use counting::buffer::filled;
 use exchange::writer::write_finding;
 use searching::finding::Finding;
 use std::io;

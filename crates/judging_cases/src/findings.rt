@@ -1,7 +1,9 @@
-use cases::input::{filled, large_buffer};
+use cases::input::large_buffer;
 use cases::patterns::{double, print_double};
 use cases::printing::{end_line, print, print_all};
 use cases::reading::Reader;
+use counting::buffer::filled;
+use counting::refusal::refusal_of;
 use judging::check::validate;
 use judging::evaluation::{Evaluated, Score, evaluate_histogram};
 use searching::finding::Finding;
@@ -51,7 +53,7 @@ fn read_bits(reader: &mut Reader) -> [u32; 20] {
 fn check(stdout: Stdout, finding: Finding, order: &[u32], lent: usize) -> io::Result<()> {
     let mut scratch = filled::<u32, 1280>(99);
     let scratch = &mut scratch[..lent.min(1280)];
-    print(stdout, validate(finding, order, scratch))?;
+    print(stdout, refusal_of(&validate(finding, order, scratch)))?;
     end_line(stdout)?;
     print_all(stdout, scratch)?;
     end_line(stdout)
@@ -66,13 +68,20 @@ fn evaluate(
 ) -> io::Result<()> {
     let mut scratch = filled::<u32, 1280>(99);
     let scratch = &mut scratch[..lent.min(1280)];
-    print_evaluated(stdout, evaluate_histogram(finding, order, raw, scratch))?;
+    let evaluated = evaluate_histogram(finding, order, raw, scratch);
+    print(stdout, refusal_of(&evaluated))?;
+    print_evaluated(
+        stdout,
+        evaluated.unwrap_or(Evaluated {
+            positive: 0,
+            score: Score::NoSample,
+        }),
+    )?;
     print_all(stdout, scratch)?;
     end_line(stdout)
 }
 
 fn print_evaluated(stdout: Stdout, evaluated: Evaluated) -> io::Result<()> {
-    print(stdout, evaluated.refusal)?;
     print(stdout, evaluated.positive)?;
     match evaluated.score {
         Score::Z(z) => {

@@ -5,8 +5,9 @@ mod findings;
 mod plans;
 mod splits;
 
-use cases::input::{filled, read_full};
+use cases::input::read_full;
 use cases::reading::Reader;
+use counting::buffer::filled;
 use std::io;
 
 // The splits, the plans, the findings.

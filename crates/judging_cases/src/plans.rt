@@ -1,6 +1,7 @@
-use cases::printing::{end_line, print, print_all};
+use cases::printing::{end_line, print};
 use cases::reading::Reader;
-use judging::plan::configurations;
+use counting::refusal::refusal_of;
+use judging::plan::{Plan, Planned, configurations};
 use std::io;
 use std::io::Stdout;
 
@@ -15,11 +16,22 @@ pub fn replay(stdout: Stdout, reader: &mut Reader) -> io::Result<()> {
 fn replay_one(stdout: Stdout, reader: &mut Reader) -> io::Result<()> {
     let block_size = reader.size();
     let plan = configurations(block_size, reader.size());
-    print(stdout, plan.refusal)?;
+    print(stdout, refusal_of(&plan))?;
+    let plan = plan.unwrap_or(Plan {
+        pairs: 0,
+        sizes: [Planned {
+            block_size: 0,
+            width: 0,
+        }; 7],
+    });
     print(stdout, plan.pairs)?;
     end_line(stdout)?;
-    print_all(stdout, &plan.blocks)?;
+    for pair in plan.sizes {
+        print(stdout, pair.block_size)?;
+    }
     end_line(stdout)?;
-    print_all(stdout, &plan.widths)?;
+    for pair in plan.sizes {
+        print(stdout, pair.width)?;
+    }
     end_line(stdout)
 }

@@ -1,6 +1,7 @@
 use cases::input::large_buffer;
 use cases::printing::{end_line, print, print_all};
 use cases::reading::Reader;
+use counting::refusal::refusal_of;
 use judging::split::{first_part, second_part, split_refusal};
 use std::io;
 use std::io::Stdout;
@@ -20,7 +21,7 @@ fn replay_one(stdout: Stdout, reader: &mut Reader) -> io::Result<()> {
     let count = reader.at_most(raw.len());
     let raw = &mut raw[..count];
     reader.fill(raw, u8::MAX);
-    print(stdout, split_refusal(raw, block_size))?;
+    print(stdout, refusal_of(&split_refusal(raw, block_size)))?;
     end_line(stdout)?;
     print_part(stdout, first_part(raw, block_size, training))?;
     print_part(stdout, second_part(raw, block_size, training))

@@ -3,9 +3,10 @@
 #![tactic(auto)]
 
 use cases::entries::repeated;
-use cases::input::{filled, read_full};
+use cases::input::read_full;
 use cases::printing::{end_line, print};
 use cases::reading::Reader;
+use counting::buffer::filled;
 use std::io;
 use std::io::{Print, Stdout};
 

@@ -3,8 +3,9 @@
 
 mod replays;
 
-use cases::input::{filled, read_full};
+use cases::input::read_full;
 use cases::reading::Reader;
+use counting::buffer::filled;
 use std::io;
 
 fn main(rt: HostRuntime) -> io::Result<()> {

@@ -1,11 +1,13 @@
 use cases::entries::{changed, weighed};
 use cases::feeding::dirty;
-use cases::input::filled;
 use cases::patterns::print_double;
 use cases::printing::{end_line, print, print_all};
 use cases::reading::Reader;
+use counting::buffer::filled;
+use counting::refusal::refusal_of;
 use layers::size::store_needed;
 use replay::replay::{Replayed, replay};
+use searching::finding::no_finding;
 use std::io;
 use std::io::Stdout;
 
@@ -77,6 +79,13 @@ fn answer(stdout: Stdout, case: Case, recording: &[u8], lengths: &[usize]) -> io
         bins,
         order,
     );
+    print(stdout, refusal_of(&replayed))?;
+    let replayed = replayed.unwrap_or(Replayed {
+        refused: 0,
+        layered: false,
+        agree: false,
+        finding: no_finding(),
+    });
     print_replayed(stdout, replayed)?;
     print_all(stdout, words)?;
     end_line(stdout)?;
@@ -92,7 +101,6 @@ fn answer(stdout: Stdout, case: Case, recording: &[u8], lengths: &[usize]) -> io
 
 fn print_replayed(stdout: Stdout, replayed: Replayed) -> io::Result<()> {
     let finding = replayed.finding;
-    print(stdout, replayed.refusal)?;
     print(stdout, replayed.refused)?;
     print(stdout, u8::from(replayed.layered))?;
     print(stdout, u8::from(replayed.agree))?;

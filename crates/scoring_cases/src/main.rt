@@ -4,8 +4,9 @@
 mod roots;
 mod scores;
 
-use cases::input::{filled, read_full};
+use cases::input::read_full;
 use cases::reading::Reader;
+use counting::buffer::filled;
 use std::io;
 
 // First the roots, then the scores.

@@ -5,8 +5,9 @@ mod rankings;
 mod ranks;
 mod searches;
 
-use cases::input::{filled, read_full};
+use cases::input::read_full;
 use cases::reading::Reader;
+use counting::buffer::filled;
 use std::io;
 
 // The ranks of subsets, the rankings of counts, the searches.

@@ -1,11 +1,11 @@
 ghost use Rattle.std.specs.Prelude.{◌≡◌, ◌^◌, ◌≤◌, IfSome, length, take};
 ghost use Rattle.counting.specs.Sample.{total};
 
-use cases::input::filled;
 use cases::patterns::print_double;
 use cases::printing::{end_line, print, print_all};
 use cases::reading::Reader;
 use counting::block::bin_count;
+use counting::buffer::filled;
 use ranking::ranking::{fill_roots, from_bins};
 use std::io;
 use std::io::Stdout;

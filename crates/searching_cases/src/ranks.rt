@@ -1,5 +1,6 @@
 use cases::printing::{end_line, print};
 use cases::reading::Reader;
+use counting::refusal::refusal_of;
 use std::io;
 use std::io::Stdout;
 use subsets::rank::compute_index;
@@ -18,7 +19,7 @@ fn replay_one(stdout: Stdout, reader: &mut Reader) -> io::Result<()> {
     let width = reader.size();
     reader.fill(&mut bits, u32::MAX);
     let ranked = compute_index(block_size, width, bits);
-    print(stdout, ranked.refusal)?;
-    print(stdout, ranked.rank)?;
+    print(stdout, refusal_of(&ranked))?;
+    print(stdout, ranked.unwrap_or(0))?;
     end_line(stdout)
 }

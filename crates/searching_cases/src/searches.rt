@@ -1,13 +1,14 @@
 use cases::entries::{changed, print_first, weighed};
 use cases::feeding::{dirty, record};
-use cases::input::filled;
 use cases::patterns::print_double;
 use cases::printing::{end_line, print, print_all};
 use cases::reading::Reader;
 use counting::block::bin_count;
+use counting::buffer::filled;
+use counting::refusal::{Refusal, refusal_of};
 use layers::size::store_needed;
 use sampling::sampler::Head;
-use searching::finding::Searched;
+use searching::finding::{Finding, no_finding};
 use searching::search::bottomup;
 use std::io;
 use std::io::Stdout;
@@ -93,7 +94,7 @@ fn lend(stdout: Stdout, search: Search, words: &[u64], entries: usize) -> io::Re
     );
     print_answer(stdout, searched, search.k, bins, order)?;
     let kept = kept_entries(
-        searched.refusal,
+        searched.is_ok(),
         search.sampler.block_size,
         search.k,
         store.len(),
@@ -104,9 +105,9 @@ fn lend(stdout: Stdout, search: Search, words: &[u64], entries: usize) -> io::Re
 }
 
 // How many counts a search leaves in a store of so many entries: none where it is refused, or the store does not suffice.
-fn kept_entries(refusal: u32, block_size: usize, k: usize, entries: usize) -> usize {
+fn kept_entries(found: bool, block_size: usize, k: usize, entries: usize) -> usize {
     let needed = store_needed(block_size, k);
-    if refusal != 0 || needed > entries {
+    if !found || needed > entries {
         return 0;
     }
     needed
@@ -114,13 +115,13 @@ fn kept_entries(refusal: u32, block_size: usize, k: usize, entries: usize) -> us
 
 fn print_answer(
     stdout: Stdout,
-    searched: Searched,
+    searched: Result<Finding, Refusal>,
     k: usize,
     bins: &[u32],
     order: &[u32],
 ) -> io::Result<()> {
     print_searched(stdout, searched)?;
-    let shown = shown_entries(searched.refusal, k);
+    let shown = shown_entries(searched.is_ok(), k);
     print_first(stdout, bins, shown)?;
     end_line(stdout)?;
     print_first(stdout, order, shown)?;
@@ -129,9 +130,9 @@ fn print_answer(
     print(stdout, changed(order, shown))
 }
 
-fn print_searched(stdout: Stdout, searched: Searched) -> io::Result<()> {
-    let finding = searched.finding;
-    print(stdout, searched.refusal)?;
+fn print_searched(stdout: Stdout, searched: Result<Finding, Refusal>) -> io::Result<()> {
+    print(stdout, refusal_of(&searched))?;
+    let finding = searched.unwrap_or(no_finding());
     print(stdout, finding.block_size)?;
     print(stdout, finding.width)?;
     print_all(stdout, &finding.bits)?;
@@ -142,8 +143,8 @@ fn print_searched(stdout: Stdout, searched: Searched) -> io::Result<()> {
 }
 
 // How many entries of a buffer a search fills: none where it is refused.
-fn shown_entries(refusal: u32, k: usize) -> usize {
-    if refusal != 0 || k > 20 {
+fn shown_entries(found: bool, k: usize) -> usize {
+    if !found || k > 20 {
         return 0;
     }
     bin_count(k)

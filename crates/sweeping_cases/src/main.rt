@@ -4,8 +4,9 @@
 mod recordings;
 mod sweeps;
 
-use cases::input::{filled, read_full};
+use cases::input::read_full;
 use cases::reading::Reader;
+use counting::buffer::filled;
 use std::io;
 
 fn main(rt: HostRuntime) -> io::Result<()> {

@@ -1,6 +1,7 @@
+use counting::buffer::filled;
 use crate::recordings::record;
 use cases::entries::changed;
-use cases::input::{filled, large_buffer};
+use cases::input::large_buffer;
 use cases::patterns::print_double;
 use cases::printing::{end_line, print, print_all};
 use cases::reading::Reader;
