@@ -2,8 +2,9 @@ use cases::patterns::print_double;
 use cases::printing::{end_line, print, print_all};
 use cases::reading::Reader;
 use counting::buffer::filled;
+use counting::refusal::refusal_of;
 use exchange::reader::read_finding;
-use searching::finding::Finding;
+use searching::finding::{Finding, no_finding};
 use std::io;
 use std::io::Stdout;
 
@@ -28,8 +29,8 @@ fn replay_one(stdout: Stdout, reader: &mut Reader) -> io::Result<()> {
     let count = reader.at_most(scratch.len());
     let scratch = &mut scratch[..count];
     let reading = read_finding(given, order, scratch);
-    print(stdout, reading.refusal)?;
-    print_finding(stdout, reading.finding)?;
+    print(stdout, refusal_of(&reading))?;
+    print_finding(stdout, reading.unwrap_or(no_finding()))?;
     end_line(stdout)?;
     print_all(stdout, order)?;
     end_line(stdout)?;

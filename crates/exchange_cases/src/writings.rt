@@ -2,6 +2,7 @@ use cases::patterns::double;
 use cases::printing::{end_line, print, print_all};
 use cases::reading::Reader;
 use counting::buffer::filled;
+use counting::refusal::refusal_of;
 use exchange::writer::write_finding;
 use searching::finding::Finding;
 use std::io;
@@ -29,8 +30,8 @@ fn replay_one(stdout: Stdout, reader: &mut Reader) -> io::Result<()> {
     let count = reader.at_most(out.len());
     let out = &mut out[..count];
     let written = write_finding(finding, order, scratch, out);
-    print(stdout, written.refusal)?;
-    print(stdout, written.length)?;
+    print(stdout, refusal_of(&written))?;
+    print(stdout, written.unwrap_or(0))?;
     end_line(stdout)?;
     print_all(stdout, out)?;
     end_line(stdout)?;
