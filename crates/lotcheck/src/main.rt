@@ -1,22 +1,17 @@
 // lotcheck: the acceptance sheet of one recording. Standard input is a header and the raw bytes; the sheet, or a refusal, goes to standard output.
 #![tactic(auto)]
 
-ghost use Rattle.std.specs.Prelude.{◌≡◌, ◌≤◌, length, IfOk};
+ghost use Rattle.std.specs.Prelude.{◌≤◌, length, IfOk};
 
+use counting::buffer::filled;
 use std::io;
 use std::io::{Print, Read, Stdin, Stdout};
 
 fn main(rt: HostRuntime) -> io::Result<()> {
-    let mut space = room();
+    // A header of 13 bytes, 8,192 raw bytes, and one more, by which a longer input shows.
+    let mut space = filled::<u8, 8206>(0);
     let length = read_full(rt.stdin(), &mut space)?;
     print_sheet(rt.stdout(), &space[..length])
-}
-
-// A header of 13 bytes, 8,192 raw bytes, and one more, by which a longer input shows.
-fn room() -> [u8; 8206]
-    ensures { 8206 ≡ length result }
-{
-    [0; 8206]
 }
 
 // Reads until the space is full or the input ends, and answers how many bytes it put at the start of the space.
@@ -25,6 +20,7 @@ fn read_full(stdin: Stdin, space: &mut [u8]) -> io::Result<usize>
 {
     let mut stdin = stdin;
     let mut done = 0;
+    // Kept: the step is what was read, not a count.
     while done < space.len() {
         let read = stdin.read(&mut space[done..])?;
         if read == 0 {
@@ -37,13 +33,7 @@ fn read_full(stdin: Stdin, space: &mut [u8]) -> io::Result<usize>
 
 // Prints the sheet of an input. No sheet is longer than 155 bytes.
 fn print_sheet(stdout: Stdout, input: &[u8]) -> io::Result<()> {
-    let mut out = line_room();
+    let mut out = filled::<u8, 155>(0);
     let length = sheet::sheet::sheet(input, &mut out);
     stdout.write_all(&out[..length])
-}
-
-fn line_room() -> [u8; 155]
-    ensures { 155 ≡ length result }
-{
-    [0; 155]
 }

@@ -6,12 +6,11 @@ use native.Mathlib.Nat.{mul-le-mul_left, mul-zero, mul-suc, pow-suc, div-one, di
 use native.Mathlib.Numerals.{add-one}
 use native.Mathlib.Omega.{arith}
 use lib.ListN.{length, take, get_or, set, length-append}
-use lib.Seq.{take-suc, take-length, length-take-le, get_or-set_same, get_or-set_other}
+use lib.Seq.{take-suc, length-take-le}
 use Rattle.counting.specs.Sample.{list_of}
 use Rattle.counting.proofs.Counts.{length_list}
-use borrow.Author.Tests.{le-leb, lt-leb, leb-true, eqb-true, eqb-false}
-use lib.Arith.{lt_of_le-ne}
-use lib.Dec.{leb, eqb}
+use borrow.Author.Tests.{le-leb, lt-leb, leb-true}
+use lib.Dec.{leb}
 use mathlib.Core.Bool.{Bool, true, false}
 use Rattle.sheet.specs.Lines.{three_lines, Printed}
 use Rattle.sheet.specs.Columns.{symbol, symbol_at, columns, fields, line}
@@ -108,9 +107,6 @@ fields_next out at w ns i h room =
     put_put out at (fields w (take i ns)) (columns w (get_or ns i 0)) (at + w * i) here fit
     ∙ ap (put out at) (sym (fields_more w (take i ns) (get_or ns i 0)) ∙ ap (fields w) (sym (take-suc ns i 0 h) ∙ rw add-one))
 
-pub fields_all : (out : List ℕ) (at w : ℕ) (ns : List ℕ) (i : ℕ) → i ≡ length ns → put out at (fields w (take i ns)) ≡ put out at (fields w ns)
-fields_all out at w ns i e = ap (λ (t : List ℕ). put out at (fields w t)) (ap (λ (j : ℕ). take j ns) e ∙ take-length ns)
-
 pub line_end : (out : List ℕ) (at w : ℕ) (ns : List ℕ) (m : ℕ) → m ≡ at + w * length ns → m < length out
     → set (put out at (fields w ns)) m 10 ≡ put out at (line w ns)
 unfolding line
@@ -140,22 +136,6 @@ lines_put out counts bits patterns a b p q h c =
     let fits : a ≤ length out = omega arith in
     ap (λ (o : List ℕ). put o b (line 20 patterns)) (put_put out 0 (line 8 counts) (line 8 bits) a first fits)
     ∙ put_put out 0 (line 8 counts ++ line 8 bits) (line 20 patterns) b second h
-
--- ---- an array copied from the front
-
-pub copy_more : (to from : List ℕ) (i x : ℕ) → i < length to → x ≡ get_or from i 0 → ((j : ℕ) → j < i → get_or to j 0 ≡ get_or from j 0)
-    → (j : ℕ) → j < i + 1 → get_or (set to i x) j 0 ≡ get_or from j 0
-copy_more to from i x h e before j l = by_test (eqb j i) refl
-  where
-    by_test : (t : Bool) → eqb j i ≡ t → get_or (set to i x) j 0 ≡ get_or from j 0
-    by_test true p =
-        let same : j ≡ i = eqb-true j i p in
-        ap (λ (k : ℕ). get_or (set to i x) k 0) same ∙ get_or-set_same to i x 0 h ∙ e ∙ ap (λ (k : ℕ). get_or from k 0) (sym same)
-    by_test false p =
-        let other : j ≡ i → ⊥ = eqb-false j i p in
-        let most : j ≤ i = omega arith in
-        let less : j < i = lt_of_le-ne most other in
-        get_or-set_other to i j x 0 other ∙ before j less
 
 -- what was printed lies within the buffer
 pub printed_within : (s out : List ℕ) (n : ℕ) (out' : List ℕ) → Printed s out n out' → n ≤ length out

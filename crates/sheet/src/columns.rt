@@ -22,12 +22,9 @@ fn put_fields(out: &mut [u8], at: usize, width: usize, values: &[u64]) -> usize
     ensures out_after { out.new ≡ put out.old at (fields width values.now) }
 {
     let mut to = at;
-    let mut i = 0;
-    while i < values.len() {
-        let value = values[i];
-        put_columns(out, to, width, value);
+    for value in values {
+        put_columns(out, to, width, *value);
         to += width;
-        i += 1;
     }
     to
 }
@@ -37,10 +34,8 @@ fn put_columns(out: &mut [u8], at: usize, width: usize, value: u64)
     requires { at + width ≤ length out.old }
     ensures { out.new ≡ put out.old at (Columns.columns width value) }
 {
-    let mut i = 0;
-    while i < width {
+    for i in 0..width {
         out[at + i] = symbol_at(value, width - 1 - i);
-        i += 1;
     }
 }
 
@@ -49,10 +44,8 @@ pub fn symbol_at(value: u64, place: usize) -> u8
     ensures { result ≡ symbol_at value place }
 {
     let mut rest = value;
-    let mut i = 0;
-    while i < place {
+    for _turn in 0..place {
         rest /= 10;
-        i += 1;
     }
     symbol_of(place, rest)
 }

@@ -56,10 +56,8 @@ pub fn field_at(input: &[u8], at: usize) -> usize
     ensures { result ≡ field_at input.now at }
 {
     let mut n: usize = 0;
-    let mut i: usize = 0;
-    while i < 6 {
+    for i in 0..6 {
         n = 10 * n + digit_of(input[at + i]);
-        i += 1;
     }
     n
 }
@@ -69,9 +67,7 @@ fn is_written(input: &[u8], at: usize, n: u64) -> bool
     requires { at + 6 ≤ length input.now }
     ensures { result ≡ match_to input.now at 6 n 6 }
 {
-    let mut i: usize = 6;
-    while 0 < i {
-        i -= 1;
+    for i in (0..6).rev() {
         if input[at + i] != symbol_at(n, 5 - i) {
             return false;
         }
@@ -84,11 +80,8 @@ fn digit_of(c: u8) -> usize
     ensures value { result ≡ digit_of c }
     ensures upper_bound { result < 10 }
 {
-    if c < b'0' {
-        return 0;
+    match c {
+        b'0'..=b'9' => (c - b'0') as usize,
+        _ => 0,
     }
-    if c > b'9' {
-        return 0;
-    }
-    (c - b'0') as usize
 }

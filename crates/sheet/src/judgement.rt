@@ -5,8 +5,8 @@ ghost use Rattle.counting.specs.Buffer.{put};
 ghost use Rattle.sheet.specs.Judgement.{judged_of, lines_of, Judgeable};
 
 use crate::lines::{pattern, put_lines, wide};
-use crate::room::{bin_room, store_room, word_room};
 use counting::block::bin_count;
+use counting::buffer::filled;
 use judging::evaluation::{Score, evaluate_histogram};
 use judging::training::train;
 use searching::finding::Finding;
@@ -54,10 +54,12 @@ fn judge(block_size: usize, k: usize, training: &[u8], testing: &[u8]) -> Judged
     requires { Judgeable block_size k training.now testing.now }
     ensures { result ≡ judged_of block_size k training.now testing.now }
 {
-    let mut words = word_room();
-    let mut store = store_room();
-    let mut bins = bin_room();
-    let mut order = bin_room();
+    // Words for 4,096 training bytes: whatever B up to 64 is, no more than 63 words are left over by floor(576 / B), and 8 bytes go into a word.
+    let mut words = filled::<u64, 576>(0);
+    // A store for the subsets of up to 4 bits of a block of 64, so for every search of 5 bits; of more bits those of the smaller blocks fit too.
+    let mut store = filled::<u32, 679120>(0);
+    let mut bins = filled::<u32, 256>(0);
+    let mut order = filled::<u32, 256>(0);
     let finding = train(
         block_size, k, false, training, &mut words, &mut store, &mut bins, &mut order,
     );

@@ -5,5 +5,4 @@ mod columns;
 mod header;
 mod judgement;
 mod lines;
-mod room;
 pub mod sheet;

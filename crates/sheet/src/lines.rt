@@ -47,17 +47,5 @@ pub fn pattern(z: f64) -> u64
 pub fn wide(bits: [u32; 20]) -> [u64; 20]
     ensures { result ≡ bits }
 {
-    let mut to = [0u64; 20];
-    let mut i: usize = 0;
-    while i < 20 {
-        to[i] = widen(bits[i]);
-        i += 1;
-    }
-    to
-}
-
-fn widen(bit: u32) -> u64
-    ensures { result ≡ bit }
-{
-    bit as u64
+    bits.map(|bit| bit as u64)
 }

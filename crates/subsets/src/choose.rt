@@ -18,6 +18,7 @@ fn choose_lower(n: usize, r: usize) -> usize
 }
 
 // n choose r where that is at most 2^32, and else 2^32 + 1.
+// Kept: a usize and its limit, since a u32 would ask more of those who call choose_up_to and coefficient.
 pub fn choose_up_to(n: usize, r: usize) -> usize
     requires { n < 4294967296 }
     ensures { result ≡ choose_up_to n r }

@@ -23,6 +23,7 @@ pub fn rank_of(block_size: usize, bits: &[u32]) -> usize
 }
 
 // The rank of the subset in the first k entries of bits; the others are not read.
+// Kept: k stands beside an array of 20 entries, as README names the call compute_index(block_size, k, bits).
 pub fn compute_index(block_size: usize, k: usize, bits: [u32; 20]) -> Result<usize, Refusal>
     ensures { as_ranked result ≡ ranked_of block_size k (take k bits) }
 {

@@ -17,6 +17,7 @@ pub fn first(k: usize) -> [u32; 20]
 
 // Puts the next k-subset of a block in the place of the one in the first k entries of bits; false where that is the last.
 // Where the last bit is at its end, the bits before it step in the block that is one shorter, and it follows them.
+// Kept: k stands beside the bits, since the promise Stepped speaks of the entries from k on too.
 pub fn successor(bits: &mut [u32], k: usize, block_size: usize) -> bool
     requires { (block_size < 4294967296) × Subset block_size k (take k bits.old) }
     ensures { Stepped block_size k bits.old result bits.new }

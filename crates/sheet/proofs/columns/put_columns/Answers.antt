@@ -9,25 +9,7 @@ use Rattle.sheet.proofs.Writing.{front, front_none, front_more, front_all}
 use Rattle.sheet.proofs.columns.put_columns.Goals as goal
 
 pub loop-i-init : goal.loop-i-init
-loop-i-init c = (front_none _ c.args.at c.args.width c.args.value, omega arith, omega arith)
-
-pub overflow_sub-width : goal.overflow_sub-width
-overflow_sub-width c = omega arith
-
-pub overflow_sub-width-in-loop-i : goal.overflow_sub-width-in-loop-i
-overflow_sub-width-in-loop-i c = omega arith
-
-pub overflow_add-out : goal.overflow_add-out
-overflow_add-out c = omega arith
-
-pub bounds-out-at : goal.bounds-out-at
-bounds-out-at c = omega arith
-
-pub overflow_add-i : goal.overflow_add-i
-overflow_add-i c = omega arith
-
-pub loop-i-smaller : goal.loop-i-smaller
-loop-i-smaller c = omega arith
+loop-i-init c = (front_none _ c.args.at c.args.width c.args.value, omega arith)
 
 pub loop-i-preserved : goal.loop-i-preserved
 loop-i-preserved c =
@@ -37,7 +19,6 @@ loop-i-preserved c =
       ap₂ (λ (o : List ℕ) (x : ℕ). set o (a.at + i) x) c.loop-i.invariant.0 c.symbol_at.ensures
           ∙ front_more a.out.now a.at a.width a.value i room,
       simp length-set (omega arith),
-      omega arith,
     )
 
 pub returns : goal.returns

@@ -1,6 +1,6 @@
 -- `header::field_at` meets its contract: after i turns n is what the first i columns make.
 use Prim.Native.Nat.{ℕ, ◌+◌, ◌*◌, ◌≤◌}
-use mathlib.Core.Path.{◌≡◌, refl, ap, ap₂, sym, ◌∙◌}
+use mathlib.Core.Path.{◌≡◌, refl, ap₂, sym, ◌∙◌}
 use native.Mathlib.Omega.{arith}
 use Rattle.sheet.specs.Header.{read_to}
 use Rattle.sheet.proofs.Reading.{read_more, read_small}
@@ -8,25 +8,7 @@ use Rattle.sheet.proofs.header.field_at.Goals as goal
 
 pub loop-i-init : goal.loop-i-init
 unfolding read_to
-loop-i-init c = (refl, omega arith, omega arith)
-
-pub overflow_mul-n : goal.overflow_mul-n
-overflow_mul-n c = omega arith
-
-pub overflow_add-at : goal.overflow_add-at
-overflow_add-at c = omega arith
-
-pub bounds-input-at : goal.bounds-input-at
-bounds-input-at c = omega arith
-
-pub overflow_add-n : goal.overflow_add-n
-overflow_add-n c = omega arith
-
-pub overflow_add-i : goal.overflow_add-i
-overflow_add-i c = omega arith
-
-pub loop-i-smaller : goal.loop-i-smaller
-loop-i-smaller c = omega arith
+loop-i-init c = (refl, omega arith)
 
 pub loop-i-preserved : goal.loop-i-preserved
 loop-i-preserved c =
@@ -35,10 +17,4 @@ loop-i-preserved c =
     let more : 10 * c.loop-i.n + c.digit_of.result ≡ read_to a.input.now a.at (i + 1) =
     ap₂ (λ (n x : ℕ). 10 * n + x) c.loop-i.invariant.0 c.digit_of.ensures.value ∙ sym (read_more a.input.now a.at i) in
     let next : i + 1 ≤ 6 = omega arith in
-    (more, next, omega (arith, read_small a.input.now a.at (i + 1) next))
-
-pub returns : goal.returns
-returns c =
-    let a = c.args in
-    let all : c.loop-i.i ≡ 6 = omega arith in
-    c.loop-i.invariant.0 ∙ ap (read_to a.input.now a.at) all
+    (more, omega (arith, read_small a.input.now a.at (i + 1) next))

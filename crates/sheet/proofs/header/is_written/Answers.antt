@@ -1,25 +1,10 @@
 -- `header::is_written` meets its contract: from the last column back, while they match what is left decides.
 use Prim.Native.Nat.{ℕ, ◌+◌, ◌-◌}
-use mathlib.Core.Path.{◌≡◌, refl, ap, sym, ◌∙◌}
+use mathlib.Core.Path.{◌≡◌, ap, sym, ◌∙◌}
 use native.Mathlib.Omega.{arith}
 use Rattle.sheet.specs.Header.{match_to}
 use Rattle.sheet.proofs.Reading.{match_more, match_none, match_all}
 use Rattle.sheet.proofs.header.is_written.Goals as goal
-
-pub loop-i-init : goal.loop-i-init
-loop-i-init c = (refl, omega arith)
-
-pub overflow_sub-i : goal.overflow_sub-i
-overflow_sub-i c = omega arith
-
-pub overflow_add-at : goal.overflow_add-at
-overflow_add-at c = omega arith
-
-pub bounds-input-at : goal.bounds-input-at
-bounds-input-at c = omega arith
-
-pub overflow_sub-i-in-loop-i : goal.overflow_sub-i-in-loop-i
-overflow_sub-i-in-loop-i c = omega arith
 
 pub returns-then-input-at : goal.returns-then-input-at
 returns-then-input-at c =
@@ -28,9 +13,6 @@ returns-then-input-at c =
     let back : i - 1 + 1 ≡ i = omega arith in
     sym (match_none a.input.now a.at 6 a.n (i - 1) (λ e. c.if-input-at.true (e ∙ sym c.symbol_at.ensures)))
     ∙ ap (match_to a.input.now a.at 6 a.n) back ∙ c.loop-i.invariant.0
-
-pub loop-i-smaller : goal.loop-i-smaller
-loop-i-smaller c = omega arith
 
 pub loop-i-preserved : goal.loop-i-preserved
 loop-i-preserved c =

@@ -6,6 +6,3 @@ use Rattle.sheet.proofs.header.is_written.Given as goal
 
 abbrev pub invariant-loop-i : goal.invariant-loop-i
 invariant-loop-i l = (match_to l.input l.at 6 l.n l.i ≡ match_to l.input l.at 6 l.n 6) × (l.i ≤ 6)
-
-abbrev pub decreases-loop-i : goal.decreases-loop-i
-decreases-loop-i l = l.i

@@ -4,7 +4,7 @@ use mathlib.Core.Bool.{false}
 use mathlib.Core.List.{List}
 use Prim.Native.Nat.{ℕ, ◌≤◌}
 use native.Mathlib.Omega.{arith}
-use lib.ListN.{length, take}
+use lib.ListN.{length, take, replicate, length-replicate}
 use lib.Seq.{length-take-le}
 use Rattle.std.specs.Prelude.{Result, Ok, Err}
 use Rattle.std.specs.Result.{IsOk}
@@ -19,18 +19,22 @@ use Rattle.sheet.proofs.Accepting.{judged_evaluated}
 use Rattle.sheet.proofs.judgement.judge.Goals.{After-evaluate_histogram, After-train-finding}
 use Rattle.sheet.proofs.judgement.judge.Goals as goal
 
+-- the room on the stack
+filled_long : {A : Type 0} (n : ℕ) (x : A) (s : List A) → s ≡ replicate n x → n ≡ length s
+filled_long n x s e = sym (ap length e ∙ length-replicate n x)
+
 -- both buffers keep their length
 bins_long : (d : After-train-finding) → length d.train-finding.new.bins ≡ 256
-bins_long d = omega (arith, d.train-finding.auto.bins, d.bin_room-bins.ensures)
+bins_long d = omega (arith, d.train-finding.auto.bins, filled_long 256 0 d.filled-bins.result d.filled-bins.ensures)
 
 order_long : (d : After-train-finding) → length d.train-finding.new.order ≡ 256
-order_long d = omega (arith, d.train-finding.auto.order, d.bin_room-order.ensures)
+order_long d = omega (arith, d.train-finding.auto.order, filled_long 256 0 d.filled-order.result d.filled-order.ensures)
 
 pub train-finding-requires : goal.train-finding-requires
 train-finding-requires c =
     let a = c.args in
     subst (λ (x : ℕ × ℕ × ℕ). Trainable a.block_size a.k (length a.training.now) x.0 x.1 x.2)
-    (λ i. (c.word_room-words.ensures i, c.bin_room-bins.ensures i, c.bin_room-order.ensures i)) c.requires.trainable
+    (λ i. (filled_long 576 0 c.filled-words.result c.filled-words.ensures i, filled_long 256 0 c.filled-bins.result c.filled-bins.ensures i, filled_long 256 0 c.filled-order.result c.filled-order.ensures i)) c.requires.trainable
 
 pub slice_bounds-evaluate_histogram-end : goal.slice_bounds-evaluate_histogram-end
 slice_bounds-evaluate_histogram-end c =
