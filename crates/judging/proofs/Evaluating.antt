@@ -19,7 +19,7 @@ use Rattle.counting.proofs.Lanes.{bit_lt}
 use Rattle.scoring.specs.Halves.{part}
 use Rattle.scoring.specs.Score.{z_score}
 use Rattle.scoring.proofs.Defined.{empty_is_nan}
-use Rattle.searching.proofs.Filled.{replaced_first, replaced_rest, replaced_length}
+use Rattle.searching.proofs.Filled.{replaced_first, replaced_rest}
 use Rattle.counting.proofs.Accepted.{passed}
 use Rattle.searching.proofs.Refusing.{neither}
 use Rattle.subsets.proofs.Listing.{bits_below}
@@ -135,6 +135,3 @@ module _ (k : ℕ) (scratch : List ℕ) where
 
   pub cleared_rest : drop (2 ^ k) (cleared k scratch) ≡ drop (2 ^ k) scratch
   cleared_rest = replaced_rest (2 ^ k) (replicate (2 ^ k) 0) scratch zeros_length
-
-  pub cleared_length : 2 ^ k ≤ length scratch → length (cleared k scratch) ≡ length scratch
-  cleared_length h = replaced_length (2 ^ k) (replicate (2 ^ k) 0) scratch zeros_length h

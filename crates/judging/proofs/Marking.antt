@@ -106,7 +106,3 @@ module _ (order : List ℕ) (m : ℕ) (left seen rest : List ℕ) (a : ℕ) (p :
         marks = λ v l. marked_more seen p.passed a p.marks h v (simp length-set at l);
         size = length-set seen a 1 ∙ p.size;
       }
-
-pub all_passed : (order : List ℕ) (m : ℕ) (left seen : List ℕ) → Passed order m left seen → length left ≡ 0 → true ≡ each_once m order
-all_passed order m [] seen p e = sym p.once ∙ ap (each_once m) p.parts
-all_passed order m (a ∷ left) seen p e = absurd (omega arith)

@@ -81,9 +81,6 @@ module _ (B : ℕ) (low : Bool) (bytes bits bins rest : List ℕ) (size : ℕ) (
   left_length : d.blocks * size + length rest ≡ length bytes
   left_length = omega (arith, ap length d.left ∙ length-drop (d.blocks * size) bytes, d.inside)
 
-  pub bins_length : length bins ≡ 2 ^ length bits
-  bins_length = ap length d.counts ∙ length_counts (recorded_bit B low bytes) d.blocks bits
-
   -- what is left has no block more
   pub all_counted : length rest < size → bins ≡ counts_of (recorded_bit B low bytes) (blocks_in B bytes) bits
   all_counted h =

@@ -30,8 +30,7 @@ pub fn shape_refusal(finding: Finding, order: usize) -> Result<(), Refusal>
     if !valid_width(k) {
         return Err(Refusal::Width);
     }
-    let bits = finding.bits;
-    bits_refusal(&bits[..k], finding.block_size)?;
+    bits_refusal(&finding.bits[..k], finding.block_size)?;
     if order != bin_count(k) {
         return Err(Refusal::OrderLength);
     }
@@ -39,6 +38,7 @@ pub fn shape_refusal(finding: Finding, order: usize) -> Result<(), Refusal>
 }
 
 // 7, unless the scratch has an entry for each bin.
+// Kept: that k is at most 20 stands in three contracts of this crate and in no type, since the width of a finding is a plain number in the C interface.
 pub fn scratch_refusal(k: usize, scratch: usize) -> Result<(), Refusal>
     requires { k ≤ 20 }
     ensures { refusal_of result ≡ scratch_refusal k scratch }

@@ -17,6 +17,7 @@ use scoring::score::z_score;
 use searching::finding::Finding;
 
 // z with its sign, or that there was no block to score.
+// Kept: the customer's rules name this enum, one case with the signed z and the other for no block.
 #[derive(Clone, Copy)]
 pub enum Score {
     Z(f64),
@@ -74,10 +75,8 @@ fn evaluate(finding: Finding, order: &[u32], bytes: &[u8], bins: &mut [u32]) -> 
     ensures value { result ≡ positive_in finding order.now bytes.now }
     ensures bins_after { bins.new ≡ counts_in finding bytes.now }
 {
-    let k = finding.width;
-    let bits = finding.bits;
     count_blocks(
-        &bits[..k],
+        &finding.bits[..finding.width],
         finding.block_size,
         finding.low_first,
         bytes,
@@ -120,13 +119,5 @@ fn score_of(n: u32, positive: u32, division: u32, k: usize) -> Score
     if n == 0 {
         return Score::NoSample;
     }
-    Score::Z(z_at(n, positive, division, k))
-}
-
-// z at a division, with its sign.
-fn z_at(n: u32, positive: u32, division: u32, k: usize) -> f64
-    requires { k ≤ 20 }
-    ensures { result ≡ z_score n positive (part division k) }
-{
-    z_score(n, positive, share(division, k))
+    Score::Z(z_score(n, positive, share(division, k)))
 }

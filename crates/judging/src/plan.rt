@@ -37,6 +37,7 @@ pub fn configurations(block_size: usize, data_size: usize) -> Result<Plan, Refus
     let mut pairs = 1;
     let top = block_size.max(512);
     let mut size = after_eight(block_size);
+    // Kept: the step is a doubling, not a count.
     while size <= top {
         sizes[pairs] = Planned {
             block_size: size,

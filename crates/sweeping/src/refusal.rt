@@ -13,6 +13,7 @@ use sampling::sampler::capacity_bytes;
 use searching::search::buffer_refusal;
 
 // How many entries the lent buffers have.
+// Kept: that 8 times the words are few stands in three contracts and not in this type, since `room_of` and `SweepExamples` make rooms of any numbers.
 #[derive(Clone, Copy)]
 pub struct Room {
     pub words: usize,

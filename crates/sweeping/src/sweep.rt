@@ -70,6 +70,7 @@ fn answer(progress: Progress) -> Swept
 }
 
 // Pair after pair of the plan. All buffers are free afterwards.
+// Kept: six lent slices and no struct of them. A slice keeps its length over a call by itself, which a struct would have to promise of each of the six.
 fn sweep_pairs(
     plan: Plan,
     low_first: bool,

@@ -1,10 +1,8 @@
 -- `check::shape_refusal` meets its contract: each return has the tests that led there.
 use mathlib.Core.Path.{◌≡◌, sym, ap, ◌∙◌}
 use mathlib.Core.Bool.{true}
-use Prim.Native.Nat.{◌^◌, ◌≤◌}
+use Prim.Native.Nat.{◌^◌}
 use native.Mathlib.Omega.{arith}
-use lib.ListN.{length}
-use borrow.Author.Rules.{rules}
 use borrow.Author.Tests.{eq-eqb, ne_eqb}
 use Rattle.counting.specs.Block.{valid_size}
 use Rattle.counting.specs.Refusal.{refusal_of}
@@ -13,7 +11,7 @@ use Rattle.subsets.specs.Bits.{valid_width, bits_refusal}
 use Rattle.subsets.proofs.Refusing.{width_bounds}
 use Rattle.searching.proofs.Refusing.{or_first, or_next}
 use Rattle.judging.specs.Check.{chosen, limit_refusal, length_refusal, shape_refusal}
-use Rattle.judging.proofs.Checking.{handed_on, limit_none, chosen_length}
+use Rattle.judging.proofs.Checking.{handed_on, limit_none}
 use Rattle.judging.proofs.check.shape_refusal.Goals.{Else-not-valid_block_size, Else-not-valid_width, In_ok-bits_refusal, Start}
 use Rattle.judging.proofs.check.shape_refusal.Goals as goal
 
@@ -28,9 +26,6 @@ width_ok d = sym d.valid_width.ensures ∙ d.if-not-valid_width.false
 limits_ok : (d : Else-not-valid_width) → limit_refusal d.args.finding ≡ 0
 limits_ok d = limit_none d.args.finding (let size_ok' : valid_size d.args.finding.block_size ≡ true = sym d.valid_block_size.ensures ∙ d.if-not-valid_block_size.false in size_ok') (width_ok d)
 
-size : (s : Start) → length s.args.finding.bits ≡ 20
-size s = search rules
-
 -- the bits are no refusal
 bits_ok : (e : In_ok-bits_refusal) → let a = e.args in bits_refusal a.finding.block_size (chosen a.finding) ≡ 0
 bits_ok e = sym e.in_ok-bits_refusal.ensures
@@ -43,14 +38,9 @@ pub returns-then-not-valid_width : goal.returns-then-not-valid_width
 unfolding shape_refusal limit_refusal
 returns-then-not-valid_width c = simp (size_ok (goal.at.returns-then-not-valid_width c).Else-not-valid_block_size, sym c.valid_width.ensures ∙ c.if-not-valid_width.true)
 
-pub slice_bounds-bits-end : goal.slice_bounds-bits-end
-slice_bounds-bits-end c =
-    omega (arith, width_bounds c.args.finding.width (width_ok (goal.at.slice_bounds-bits-end c).Else-not-valid_width), size (goal.at.slice_bounds-bits-end c).Start)
-
-pub slice_bounds-bits_refusal-end : goal.slice_bounds-bits_refusal-end
-slice_bounds-bits_refusal-end c =
-    let narrow : c.args.finding.width ≤ 20 = omega (arith, width_bounds c.args.finding.width (width_ok (goal.at.slice_bounds-bits_refusal-end c).Else-not-valid_width)) in
-    sym (chosen_length c.args.finding narrow (size (goal.at.slice_bounds-bits_refusal-end c).Start))
+pub shared_ref_as_front-bits_refusal : goal.shared_ref_as_front-bits_refusal
+shared_ref_as_front-bits_refusal c =
+    omega (arith, width_bounds c.args.finding.width (width_ok (goal.at.shared_ref_as_front-bits_refusal c).Else-not-valid_width))
 
 pub returns-in_err-bits_refusal : goal.returns-in_err-bits_refusal
 unfolding shape_refusal
@@ -60,10 +50,6 @@ returns-in_err-bits_refusal c =
     ap refusal_of (handed_on _ _ c.from_residual.ensures.1)
     ∙ is ∙ or_first (bits_refusal a.finding.block_size (chosen a.finding)) (length_refusal a.finding.width a.order) (λ z. some_number _ (is ∙ z))
     ∙ or_next _ _ (limits_ok (goal.at.returns-in_err-bits_refusal c).Else-not-valid_width)
-
-pub bin_count-requires : goal.bin_count-requires
-bin_count-requires c =
-    omega (arith, width_bounds _ (width_ok (goal.at.bin_count-requires c).Else-not-valid_width))
 
 pub returns-then-order-bin_count : goal.returns-then-order-bin_count
 unfolding shape_refusal length_refusal

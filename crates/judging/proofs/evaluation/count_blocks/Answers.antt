@@ -1,20 +1,16 @@
 -- `evaluation::count_blocks` meets its contract: the bins are the counts of the blocks gone over.
 use mathlib.Core.Path.{◌≡◌}
-use Prim.Native.Nat.{◌/◌, ◌^◌, ◌≤◌, ◌<◌}
+use Prim.Native.Nat.{◌/◌, ◌≤◌, ◌<◌}
 use native.Mathlib.Omega.{arith}
-use lib.ListN.{get_or, length}
+use lib.ListN.{get_or}
 use Rattle.counting.specs.Recording.{blocks_in}
 use Rattle.counting.proofs.Accepted.{Valid, valid_facts}
-use Rattle.judging.proofs.Tallying.{none_counted, bins_length, all_counted, small, one_more}
+use Rattle.judging.proofs.Tallying.{none_counted, all_counted, small, one_more}
 use Rattle.judging.proofs.evaluation.count_blocks.Goals.{At-loop-block, Start}
 use Rattle.judging.proofs.evaluation.count_blocks.Goals as goal
 
 sized : (s : Start) → Valid s.args.block_size
 sized s = valid_facts s.args.block_size s.requires.countable_data.valid
-
--- the bins are those of the bits
-long : (l : At-loop-block) → length l.loop-block.bins ≡ 2 ^ length l.args.bits.now
-long l = bins_length _ _ _ _ _ _ _ l.loop-block.invariant
 
 pub chunks_exact-block-items-requires : goal.chunks_exact-block-items-requires
 chunks_exact-block-items-requires c = omega (arith, valid_facts c.args.block_size c.requires.countable_data.valid)
@@ -38,9 +34,6 @@ bits_block_eval-v-requires c =
           let below : get_or a.bits.now i 0 < a.block_size = c.requires.countable_data.within i h in
           omega (arith, c.in-Some.ensures.steps.1.1, c.loop-block.invariant.sized, sized (goal.at.bits_block_eval-v-requires c).Start);
     }
-
-pub bounds-bins-v : goal.bounds-bins-v
-bounds-bins-v c = omega (arith, c.bits_block_eval-v.ensures.1, long (goal.at.bounds-bins-v c).At-loop-block)
 
 pub overflow_add-bins : goal.overflow_add-bins
 overflow_add-bins c =

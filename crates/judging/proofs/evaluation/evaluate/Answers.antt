@@ -1,34 +1,18 @@
 -- `evaluation::evaluate` meets its contract: the counts of the blocks, and the sum of the first of them in the order.
-use mathlib.Core.Path.{◌≡◌, sym, ap, ◌∙◌, subst}
-use mathlib.Core.List.{List}
+use mathlib.Core.Path.{sym, ap, ◌∙◌, subst}
 use Prim.Native.Nat.{ℕ, ◌^◌}
 use native.Mathlib.Omega.{arith}
-use lib.ListN.{length, replicate}
-use borrow.Author.Rules.{rules}
+use lib.ListN.{length}
 use Rattle.counting.specs.Recording.{recorded_bit}
 use Rattle.counting.specs.Sample.{total}
 use Rattle.counting.proofs.Counts.{counts_add_up}
 use Rattle.searching.proofs.Filled.{length_counts}
 use Rattle.judging.specs.Check.{chosen}
 use Rattle.judging.specs.Permutation.{Permutation}
-use Rattle.judging.specs.Evaluation.{testing_blocks, positive_of}
+use Rattle.judging.specs.Evaluation.{testing_blocks}
 use Rattle.judging.proofs.Evaluating.{recorded_small}
 use Rattle.judging.proofs.evaluation.evaluate.Goals.{Start}
 use Rattle.judging.proofs.evaluation.evaluate.Goals as goal
-
-size : (s : Start) → length s.args.finding.bits ≡ 20
-size s = search rules
-
-pub slice_bounds-bits-end : goal.slice_bounds-bits-end
-slice_bounds-bits-end c =
-    omega (arith, size (goal.at.slice_bounds-bits-end c).Start, c.requires.countable_data.few, c.requires.finding_len.0)
-
-pub count_blocks-requires : goal.count_blocks-requires
-count_blocks-requires c =
-    record {
-      countable_data = c.requires.countable_data;
-      bins_value = c.requires.bins_value ∙ ap (λ (k : ℕ). replicate (2 ^ k) 0) (sym c.requires.finding_len.0);
-    }
 
 pub sum_first-requires : goal.sum_first-requires
 sum_first-requires c =
@@ -41,12 +25,4 @@ sum_first-requires c =
     record {
       permutation = subst (λ (m : ℕ). Permutation m c.args.order.now) (sym long) c.requires.finding_len.1;
       division_in_bounds = (c.requires.finding_len.2, omega (arith, sum, c.requires.countable_data.blocks));
-    }
-
-pub returns : goal.returns
-returns c =
-    let a = c.args in
-    record {
-      value = c.sum_first.ensures ∙ ap (λ (s : List ℕ). positive_of s a.order.now a.finding.division) c.count_blocks.ensures;
-      bins_after = c.count_blocks.ensures;
     }

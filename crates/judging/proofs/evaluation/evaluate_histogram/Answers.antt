@@ -4,7 +4,6 @@ use mathlib.Core.List.{List, ◌++◌}
 use Prim.Native.Nat.{ℕ, ◌^◌}
 use native.Mathlib.Omega.{arith}
 use lib.ListN.{length, take, drop}
-use lib.Seq.{length-take-le}
 use borrow.Author.Rules.{rules}
 use Rattle.counting.proofs.Accepted.{valid_facts}
 use Rattle.counting.proofs.Reasons.{some_number}
@@ -14,7 +13,7 @@ use Rattle.searching.proofs.Refusing.{or_first, or_next}
 use Rattle.judging.specs.Check.{order_refusal}
 use Rattle.judging.specs.Evaluation.{testing_blocks, counts_in, score_for, early_evaluation_refusal, evaluation_refusal, Evaluated, as_evaluated, evaluated_of, evaluated_scratch}
 use Rattle.judging.proofs.Checking.{handed_on, Ordered, ordered, chosen_length}
-use Rattle.judging.proofs.Evaluating.{Early, early, countable, answer_number, answer_refused, answer_found, scratch_lent, scratch_cleared, scratch_counted, cleared_first, cleared_rest, cleared_length}
+use Rattle.judging.proofs.Evaluating.{Early, early, countable, answer_number, answer_refused, answer_found, scratch_lent, scratch_cleared, scratch_counted, cleared_first, cleared_rest}
 use Rattle.judging.proofs.Once.{once_permutes}
 use Rattle.judging.proofs.evaluation.evaluate_histogram.Goals.{In_ok-early_evaluation_refusal, In_ok-order_refusal, Start}
 use Rattle.judging.proofs.evaluation.evaluate_histogram.Goals as goal
@@ -37,12 +36,6 @@ order_facts g = let a = g.args in ordered a.finding.width a.finding.division a.o
 
 size : (s : Start) → length s.args.finding.bits ≡ 20
 size s = search rules
-
--- the scratch is as long as it was
-long : (g : In_ok-order_refusal) → length g.order_refusal.new.scratch ≡ length g.args.scratch.now
-long g =
-    let a = g.args in
-    ap length g.order_refusal.ensures.scratch_after ∙ cleared_length a.finding.width a.scratch.now (facts (goal.at.bin_count-m-requires g).In_ok-early_evaluation_refusal).space
 
 pub returns-in_err-early_evaluation_refusal : goal.returns-in_err-early_evaluation_refusal
 unfolding evaluated_of evaluated_scratch evaluation_refusal
@@ -75,13 +68,6 @@ returns-in_err-order_refusal c =
 
 pub bin_count-m-requires : goal.bin_count-m-requires
 bin_count-m-requires c = (facts (goal.at.bin_count-m-requires c).In_ok-early_evaluation_refusal).shape.limits.width
-
-pub slice_bounds-evaluate-end : goal.slice_bounds-evaluate-end
-slice_bounds-evaluate-end c = omega (arith, long (goal.at.slice_bounds-evaluate-end c).In_ok-order_refusal, (facts (goal.at.slice_bounds-evaluate-end c).In_ok-early_evaluation_refusal).space, c.bin_count-m.ensures)
-
-pub slice_bounds-evaluate-end-2 : goal.slice_bounds-evaluate-end-2
-slice_bounds-evaluate-end-2 c =
-    sym (length-take-le c.bin_count-m.result _ (omega (arith, long (goal.at.slice_bounds-evaluate-end-2 c).In_ok-order_refusal, (facts (goal.at.slice_bounds-evaluate-end-2 c).In_ok-early_evaluation_refusal).space, c.bin_count-m.ensures)))
 
 pub evaluate-positive-requires : goal.evaluate-positive-requires
 evaluate-positive-requires c =

@@ -39,9 +39,3 @@ overflow_add-sum c =
 
 pub loop-bin-preserved : goal.loop-bin-preserved
 loop-bin-preserved c = more (goal.at.loop-bin-preserved c).In-loop-bin
-
-pub returns : goal.returns
-returns c =
-    let a = c.args in
-    let past : c.loop-bin.bin-index ≡ a.division = omega (arith, c.loop-bin-test.false, length-take-le a.division a.order.now c.requires.division_in_bounds.0) in
-    c.loop-bin.invariant ∙ ap (positive_of a.bins.now a.order.now) past

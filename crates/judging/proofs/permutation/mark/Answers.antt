@@ -2,7 +2,7 @@
 use mathlib.Core.Path.{◌≡◌}
 use Rattle.std.specs.Iterator.Adapters.{rev_source}
 use Rattle.std.specs.Slice.Iter.{iter_rest}
-use Rattle.judging.proofs.Marking.{none_passed, outside, again, turn, all_passed}
+use Rattle.judging.proofs.Marking.{none_passed, outside, again, turn}
 use Rattle.judging.proofs.permutation.mark.Goals as goal
 
 pub loop-bin-init : goal.loop-bin-init
@@ -18,6 +18,3 @@ returns-then-seen-v-ne0 c = again _ _ _ _ _ _ c.loop-bin.invariant c.in-Some.ens
 
 pub loop-bin-preserved : goal.loop-bin-preserved
 loop-bin-preserved c = turn _ _ _ _ _ _ c.loop-bin.invariant c.in-Some.ensures.steps c.if-v-seen.false c.if-seen-v-ne0.false
-
-pub returns : goal.returns
-returns c = all_passed _ _ _ _ c.loop-bin.invariant c.in-None.ensures.steps.0

@@ -1,23 +1,20 @@
 -- `plan::configurations` meets its contract. The loop's invariant: the pairs so far are written, and the sizes from `size` on are left.
 use mathlib.Core.Path.{◌≡◌, sym, ◌∙◌}
 use mathlib.Core.Bool.{true, false}
-use Prim.Native.Nat.{◌≤◌, ◌<◌}
+use Prim.Native.Nat.{◌≤◌}
 use native.Mathlib.Omega.{arith}
 use Rattle.counting.specs.Block.{valid_size}
 use Rattle.counting.proofs.Accepted.{valid_facts}
 use Rattle.std.proofs.lemmas.List.{map-set}
 use Rattle.judging.specs.Plan.{sizes_in, widths_in, plan_of}
 use Rattle.judging.specs.declared.plan.Planned as pair
-use Rattle.judging.proofs.Planning.{Planned, begun, entry_left, turn, all_sizes, all_widths}
+use Rattle.judging.proofs.Planning.{Planned, begun, turn, all_sizes, all_widths}
 use Rattle.judging.proofs.plan.configurations.Goals.{In-loop-size}
 use Rattle.judging.proofs.plan.configurations.Goals as goal
 
 -- what a turn begins with
 at_turn : (c : In-loop-size) → let s = c.args in let l = c.loop-size in Planned s.block_size s.data_size c.max-top.result l.pairs l.size (sizes_in l.sizes) (widths_in l.sizes)
 at_turn c = c.loop-size.invariant.0
-
-within : (c : In-loop-size) → c.loop-size.pairs < 7
-within c = entry_left _ _ _ _ _ _ _ (at_turn c) c.loop-size-test.true
 
 low : (c : In-loop-size) → c.loop-size.size ≤ 4096
 low c = omega (arith, c.loop-size-test.true, c.loop-size.invariant.1.0, valid_facts _ c.loop-size.invariant.1.1)
@@ -34,20 +31,8 @@ loop-size-init c =
     let good : valid_size s.block_size ≡ true = sym c.valid_block_size.ensures ∙ c.if-not-valid_block_size.false in
     (rw (c.max-top.ensures, c.after_eight-size.ensures) (begun s.block_size s.data_size (valid_facts _ good)), (c.max-top.ensures, good))
 
-pub offset_bounds-sizes-pairs : goal.offset_bounds-sizes-pairs
-offset_bounds-sizes-pairs c = omega (arith, within (goal.at.offset_bounds-sizes-pairs c).In-loop-size)
-
-pub bounds-sizes-pairs : goal.bounds-sizes-pairs
-bounds-sizes-pairs c = within (goal.at.bounds-sizes-pairs c).In-loop-size
-
-pub overflow_add-pairs : goal.overflow_add-pairs
-overflow_add-pairs c = omega (arith, within (goal.at.overflow_add-pairs c).In-loop-size)
-
 pub overflow_mul-size : goal.overflow_mul-size
 overflow_mul-size c = omega (arith, low (goal.at.overflow_mul-size c).In-loop-size)
-
-pub loop-size-smaller : goal.loop-size-smaller
-loop-size-smaller c = omega (arith, c.loop-size-test.true, (at_turn (goal.at.loop-size-smaller c).In-loop-size).big)
 
 pub loop-size-preserved : goal.loop-size-preserved
 loop-size-preserved c =

@@ -40,17 +40,11 @@ nonzero_div-blocks c = omega (arith, (splits _ _ (fine c)).valid)
 pub overflow_mul-start : goal.overflow_mul-start
 overflow_mul-start c = omega (arith, starts c, ends c, c.well_formed)
 
-pub overflow_mul-end : goal.overflow_mul-end
-overflow_mul-end c = omega (arith, ends c, c.well_formed)
-
 pub slice_bounds-result-count : goal.slice_bounds-result-count
 slice_bounds-result-count c = starts c
 
 pub slice_bounds-result-start : goal.slice_bounds-result-start
 slice_bounds-result-start c = starts c
-
-pub slice_bounds-result-end-2 : goal.slice_bounds-result-end-2
-slice_bounds-result-end-2 c = ends c
 
 pub returns : goal.returns
 unfolding second_part

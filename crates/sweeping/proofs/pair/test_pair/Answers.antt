@@ -2,10 +2,8 @@
 use mathlib.Core.Path.{◌≡◌, sym, ap, subst, ◌∙◌}
 use mathlib.Core.Bool.{true}
 use mathlib.Core.List.{List}
-use Prim.Native.Nat.{ℕ, ◌^◌, ◌≤◌}
-use native.Mathlib.Omega.{arith}
+use Prim.Native.Nat.{ℕ, ◌^◌}
 use lib.ListN.{length, take}
-use lib.Seq.{length-take-le}
 use Rattle.counting.proofs.Accepted.{valid_facts}
 use Rattle.judging.specs.Split.{first_part}
 use Rattle.judging.specs.Training.{trained_of, trained_order, Trainable}
@@ -48,11 +46,6 @@ train-finding-requires c =
     let a = c.args in
     subst (λ (l : List ℕ). Trainable a.pair.block_size a.pair.width (length l) (length a.words.now) (length a.bins.now) (length a.order.now)) (sym c.first_part-training.ensures)
     (trainable a.pair a.raw.now (length a.words.now) (length a.bins.now) (length a.order.now) (length a.scratch.now) (length a.entries.now) c.requires)
-
-pub slice_bounds-judge-end-2 : goal.slice_bounds-judge-end-2
-slice_bounds-judge-end-2 c =
-    let fits : c.bin_count-m.result ≤ length (left (goal.at.slice_bounds-judge-end-2 c).After-train-finding) = omega (arith, c.bin_count-m.ensures, c.train-finding.auto.order, c.requires.room.1) in
-    sym (length-take-le c.bin_count-m.result (left (goal.at.slice_bounds-judge-end-2 c).After-train-finding) fits)
 
 pub judge-requires : goal.judge-requires
 judge-requires c =

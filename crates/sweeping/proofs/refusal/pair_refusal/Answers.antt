@@ -2,7 +2,6 @@
 use mathlib.Core.Path.{◌≡◌}
 use mathlib.Core.Bool.{true}
 use Prim.Native.Nat.{◌*◌, ◌/◌, ◌≤◌, ◌<◌}
-use native.Mathlib.Nat.{div-mul-le_self, mul-le-mul_right}
 use native.Mathlib.Omega.{arith}
 use lib.Dec.{leb}
 use borrow.Author.Tests.{le-leb, lt-leb}
@@ -19,23 +18,12 @@ has s = valid_facts s.args.block_size s.requires.block_size_value
 two : (e : Else-m-lt2) → let a = e.args in leb 2 (a.bytes / (a.block_size / 8)) ≡ true
 two e = let a = e.args in let h : 2 ≤ a.bytes / (a.block_size / 8) = omega (arith, e.if-m-lt2.false) in le-leb _ _ h
 
--- half of the blocks has no more bytes than there are
-half : (e : Else-m-lt2) → let a = e.args in a.bytes / (a.block_size / 8) / 2 * (a.block_size / 8) ≤ a.bytes
-half e =
-    let a = e.args in
-    let m = a.bytes / (a.block_size / 8) in
-    let h : m / 2 ≤ m = omega arith in
-    omega (arith, mul-le-mul_right (a.block_size / 8) h, div-mul-le_self a.bytes (a.block_size / 8))
-
 pub nonzero_div-m : goal.nonzero_div-m
 nonzero_div-m c = omega (arith, (has c).low)
 
 pub returns-then-m-lt2 : goal.returns-then-m-lt2
 unfolding pair_refusal
 returns-then-m-lt2 c = simp (lt-leb _ _ c.if-m-lt2.true)
-
-pub overflow_mul-m : goal.overflow_mul-m
-overflow_mul-m c = omega (arith, half c)
 
 pub capacity_bytes-requires : goal.capacity_bytes-requires
 capacity_bytes-requires c = let v = has (goal.at.capacity_bytes-requires c).Start in record {

@@ -11,7 +11,6 @@ use Rattle.counting.specs.Refusal.{refusal_of}
 use Rattle.counting.proofs.Reasons.{some_number}
 use Rattle.judging.specs.Plan.{as_plan}
 use Rattle.judging.proofs.Checking.{handed_on}
-use Rattle.sweeping.specs.Refusal.{pairs_refusal}
 use Rattle.sweeping.proofs.Plans.{sizes_here, refused_here}
 use Rattle.sweeping.proofs.Refusals.{none_first, one_free, refused_at}
 use Rattle.sweeping.proofs.refusal.pairs_refusal.Goals.{In-loop-pair, Start}
@@ -52,8 +51,3 @@ returns-in_err-pair_refusal c =
     ap refusal_of (handed_on _ _ c.from_residual.ensures.1)
     ∙ refused_at (as_plan (Ok a.plan)) a.bytes a.room i a.plan.pairs _ w c.loop-pair.invariant
     (c.in_err-pair_refusal.ensures ∙ refused_here a.plan i w f a.bytes a.room) (some_number _)
-
-pub returns : goal.returns
-returns c =
-    let all : c.loop-pair.pair-index ≡ c.args.plan.pairs = omega (arith, c.loop-pair-test.false, length-take-le c.args.plan.pairs c.args.plan.sizes (few (goal.at.returns c).Start)) in
-    sym c.loop-pair.invariant ∙ ap (pairs_refusal (as_plan (Ok c.args.plan)) c.args.bytes c.args.room) all

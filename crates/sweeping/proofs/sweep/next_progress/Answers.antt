@@ -35,9 +35,6 @@ test_pair-tested-requires c =
     let a = c.args in
     testable a.pair (length a.raw.now) (room_of a.words.now a.bins.now a.order.now a.scratch.now a.entries.now) c.requires.sizes.0 c.requires.entries_value (two (goal.at.test_pair-tested-requires c).Else-raw-pair-lt2)
 
-pub counted-requires : goal.counted-requires
-counted-requires c = omega (arith, c.requires.sizes.1)
-
 pub returns : goal.returns
 returns c =
     let a = c.args in

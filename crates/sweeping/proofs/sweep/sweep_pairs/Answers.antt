@@ -8,7 +8,7 @@ use lib.Seq.{length-take-le}
 use borrow.Author.Rules.{rules}
 use Rattle.std.specs.Prelude.{Ok}
 use Rattle.judging.specs.Plan.{as_plan}
-use Rattle.sweeping.specs.Progress.{next_progress, progress_to}
+use Rattle.sweeping.specs.Progress.{next_progress}
 use Rattle.sweeping.specs.Refusal.{pair_refusal}
 use Rattle.sweeping.specs.Sweep.{room_of}
 use Rattle.sweeping.specs.declared.refusal.Room.{Room}
@@ -58,9 +58,3 @@ loop-planned-preserved c =
     rw add-one
     (c.next_progress-progress.ensures ∙ (λ j. next_progress a.share a.raw.now (pair_is a.plan i w f a.low_first j) l.progress)
     ∙ one_more a.share (as_plan (Ok a.plan)) a.low_first a.raw.now i l.progress l.invariant)
-
-pub returns : goal.returns
-returns c =
-    let a = c.args in
-    let all : c.loop-planned.planned-index ≡ a.plan.pairs = omega (arith, c.loop-planned-test.false, length-take-le a.plan.pairs a.plan.sizes (few (goal.at.returns c).Start)) in
-    c.loop-planned.invariant ∙ ap (progress_to a.share (as_plan (Ok a.plan)) a.low_first a.raw.now) all
