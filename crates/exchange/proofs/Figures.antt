@@ -2,12 +2,12 @@
 use mathlib.Core.Path.{◌≡◌, refl, sym, ap, ap₂, ◌∙◌}
 use mathlib.Core.Bool.{Bool, true, false, cond}
 use mathlib.Core.List.{List, [], ◌∷◌, ◌++◌, append_assoc, append-nil}
-use Prim.Native.Nat.{ℕ, zero, suc, ◌+◌, ◌*◌, ◌/◌, ◌%◌, ◌^◌, ◌≤◌, ◌<◌}
+use Prim.Native.Nat.{ℕ, zero, suc, ◌+◌, ◌-◌, ◌*◌, ◌/◌, ◌%◌, ◌^◌, ◌≤◌, ◌<◌}
 use native.Mathlib.Nat.{pow-suc, one-le-pow, div-div-eq-div-mul, mul_comm}
+use native.Mathlib.Numerals.{add-one}
 use native.Mathlib.Omega.{arith}
 use lib.Dec.{ltb, leb}
 use lib.ListN.{length, set, length-append}
-use Rattle.std.specs.Prelude.{count_by}
 use borrow.Author.Tests.{ltb-true, ltb-false, lt-ltb, le-ltb, leb-true, leb-false, lt-leb, le-leb}
 use Rattle.counting.specs.Buffer.{put}
 use Rattle.exchange.specs.Writer.{digits_of, places, decimal}
@@ -87,11 +87,21 @@ pub decimal_reached : (n : ℕ) → 1 + reached 9 10 n ≡ length (decimal n)
 unfolding decimal
 decimal_reached n = digits_reached 9 n
 
--- .. which are these
-pub powers_counted : (n : ℕ)
-    → 1 + count_by (λ (p : ℕ). leb p n) (10 ∷ 100 ∷ 1000 ∷ 10000 ∷ 100000 ∷ 1000000 ∷ 10000000 ∷ 100000000 ∷ 1000000000 ∷ []) ≡ length (decimal n)
+pub reached_next : (i n : ℕ) → i < 9 → reached (9 - i) (10 ^ suc i) n ≡ cond (leb (10 ^ i * 10) n) 1 0 + reached (9 - (i + 1)) (10 ^ suc (i + 1)) n
 unfolding reached
-powers_counted n = let same : 1 + reached 9 10 n ≡ length (decimal n) = decimal_reached n in omega (arith, same)
+reached_next i n h =
+    let less : 9 - i ≡ suc (9 - (i + 1)) = omega arith in
+    let p : 10 ^ suc i ≡ 10 ^ i * 10 = pow-suc 10 i in
+    let q : 10 ^ suc (i + 1) ≡ 10 ^ i * 10 * 10 = rw add-one (pow-suc 10 (suc i) ∙ ap (λ (m : ℕ). m * 10) p) in
+    rw (less, p, q)
+
+pub reached_none_left : (i n : ℕ) → i ≡ 9 → reached (9 - i) (10 ^ suc i) n ≡ 0
+unfolding reached
+reached_none_left i n e = rw e
+
+pub one_at_most : (b : Bool) → cond b 1 0 ≤ 1
+one_at_most true = omega arith
+one_at_most false = omega arith
 
 -- ---- at most so many
 

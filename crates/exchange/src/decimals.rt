@@ -1,33 +1,19 @@
 // Decimal numbers without leading zeros, written into a buffer.
-ghost use Rattle.std.specs.Prelude.{◌≡◌, ◌+◌, ◌≤◌, ◌<◌, leb, length, count_by};
+ghost use Rattle.std.specs.Prelude.{◌≡◌, ◌+◌, ◌≤◌, ◌<◌, length};
 ghost use Rattle.counting.specs.Buffer.{put};
 ghost use Rattle.exchange.specs.Writer.{places, decimal, behind, listed};
 
-// The powers of ten that 32 bits hold, but for 1.
-const POWERS: [u32; 9] = [
-    10,
-    100,
-    1_000,
-    10_000,
-    100_000,
-    1_000_000,
-    10_000_000,
-    100_000_000,
-    1_000_000_000,
-];
-
-// How many digits a number has: one, and one more for each power of ten up to it.
+// How many digits a number has: one, and one more for each power of ten up to it. Without branches, so that many numbers are counted at a time.
 pub fn digits(n: u32) -> usize
     ensures { result ≡ length (decimal n) }
 {
-    1 + reached(&POWERS, n)
-}
-
-// How many of these powers a number reaches.
-fn reached(powers: &[u32], n: u32) -> usize
-    ensures { result ≡ count_by (λ p. leb p n) powers.now }
-{
-    powers.iter().filter(|power| **power <= n).count()
+    let mut count: u32 = 1;
+    let mut power: u32 = 1;
+    for _ in 0..9u32 {
+        power *= 10;
+        count += u32::from(power <= n);
+    }
+    count as usize
 }
 
 // How long numbers with commas between them are.
