@@ -5,6 +5,7 @@ ghost use Rattle.replay.specs.Agreement.{same_finding};
 use searching::finding::Finding;
 
 // Whether two findings are the same in every field, their bits up to the width: entries past it are not read.
+// Kept: a derived == would compare those entries too, which `same_finding` of specs/Agreement.antt does not.
 pub fn same_finding(a: Finding, b: Finding) -> bool
     ensures { result ≡ same_finding a b }
 {

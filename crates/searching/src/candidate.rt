@@ -25,18 +25,13 @@ impl Pass<'_> {
         ensures order_after { order.new ≡ order_of (counts_of (stretch_bit self.now.sample.stretch self.now.sample.words.now) (span self.now.sample.stretch) bits.now) ++ drop (2 ^ self.now.sample.k) order.old }
     {
         self.fill_bins(bits, run, order, bins);
-        let ranking = from_bins(
+        from_bins(
             bins,
             order,
             span(self.sample.stretch),
             self.sample.k,
             self.roots,
-        );
-        // One by one, as they have just been stored: a copy of both at once would wait for that.
-        Ranking {
-            division: ranking.division,
-            z: ranking.z,
-        }
+        )
     }
 
     // The counts of the bits' bins: all counted where no store is lent, else worked out from it. The first entries of the order buffer are free.

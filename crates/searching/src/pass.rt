@@ -13,6 +13,7 @@ use ranking::ranking::fill_roots;
 use subsets::stepping::first;
 
 // What a pass goes by: the sample, the store that the bins are worked out from, which is empty where every bin is counted, and the roots for its divisions.
+// Kept: no store is an empty one; tried as an Option it proved, and a search of 256 blocks of 64 bits at k 3 took 7.2 ms in place of 6.6.
 #[derive(Clone, Copy)]
 pub struct Pass<'a> {
     pub sample: Sample<'a>,
@@ -60,6 +61,8 @@ pub fn find(
     }
 }
 
+// Kept: bins, order and that both have room stand in each contract: a struct that holds two `&mut` would need, in place of that clause, two that say that it
+// still holds the same slices, since a call that is lent the struct may put others there.
 impl Pass<'_> {
     // The best k-subset. A block of k bits has one only, which the pass would rank twice.
     // The first 2 ^ k entries of the buffers are free, and of run all but the places in the store.

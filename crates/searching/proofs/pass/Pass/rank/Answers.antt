@@ -11,8 +11,8 @@ use Rattle.ranking.specs.Ranking.{Roots}
 use Rattle.searching.proofs.Filled.{counts_first}
 use Rattle.searching.proofs.pass.Pass.rank.Goals as goal
 
-pub from_bins-ranking-requires : goal.from_bins-ranking-requires
-from_bins-ranking-requires c =
+pub from_bins-requires : goal.from_bins-requires
+from_bins-requires c =
     let sample = c.args.self.now.sample in
     let n = c.span.ensures in
     let bit = stretch_bit sample.stretch sample.words.now in
