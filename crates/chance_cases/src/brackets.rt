@@ -1,3 +1,4 @@
+// Cases of brackets: n, c, k, d and the number of lent entries, each 99. Answer: a line with the refusal and both ends, a line with every entry that was lent.
 use cases::printing::{end_line, print, print_all};
 use cases::reading::Reader;
 use chance::bracket::{Ends, bracket};

@@ -1,3 +1,6 @@
+// Cases of readings: the text, the number of its bytes first; the lengths of the order and of the scratch.
+// Answer: a line with the refusal and the finding's numbers, B, the width, the division, the pattern of z, 20 bits and low_first as
+// 0 or 1; one with the order after it, and one with the scratch.
 use cases::patterns::print_double;
 use cases::printing::{end_line, print, print_all};
 use cases::reading::Reader;

@@ -1,3 +1,6 @@
+// Cases of writings: B, the width, 20 bits, of which those past the width mean nothing, the division, the pattern of z, low_first, which is true
+// where it is not 0; the order, its length first; the lengths of the scratch and of the output.
+// Answer: a line with the refusal and the length; one with the output after it, and one with the scratch.
 use cases::patterns::double;
 use cases::printing::{end_line, print, print_all};
 use cases::reading::Reader;

@@ -1,3 +1,7 @@
+// Cases of findings: B, the width, 20 bits, of which those past the width mean nothing, the division, the pattern of z, the bit order, 1 where the low bit
+// comes first; the order, its length first; the length of the scratch; the bytes to evaluate on, their number first.
+// Answer: a line with the check's refusal, and one with the scratch after it; a line with the evaluation's refusal, the positive blocks, and 1 and the
+// pattern of z, or 0 where there is no sample; and one with the scratch after it. Every entry of a scratch is 99 before.
 use cases::input::large_buffer;
 use cases::patterns::{double, print_double};
 use cases::printing::{end_line, print, print_all};

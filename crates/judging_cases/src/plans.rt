@@ -1,3 +1,4 @@
+// Cases of plans: B and a number of bytes. Answer: a line with the refusal and the number of pairs, one with the seven block sizes, one with the seven widths.
 use cases::printing::{end_line, print};
 use cases::reading::Reader;
 use counting::refusal::refusal_of;

@@ -1,3 +1,5 @@
+// Cases of splits: B, 1 where there is training, else 0, and the raw bytes, their number first.
+// Answer: a line with the refusal, and one for each part with its length and its bytes.
 use cases::input::large_buffer;
 use cases::printing::{end_line, print, print_all};
 use cases::reading::Reader;

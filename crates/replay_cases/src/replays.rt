@@ -1,3 +1,8 @@
+// Cases of replays: B, the bit order, 1 where the low bit comes first, k, how many words, bins, entries of the order and of the store are lent; the
+// number of the recording's bytes, and each; the number of lengths, and each.
+// Answer: a line with the refusal, the number of refused feeds, whether the store suffices, whether the findings agree, and the finding: B, width, 20 bits,
+// division, the pattern of z, the bit order; a line with all words, one with the whole bin buffer and one with the whole order buffer afterwards; and one with
+// how many entries of the store, past the counts that are left there where it suffices, are no longer as lent, and the sum of these counts, each times its place.
 use cases::entries::{changed, weighed};
 use cases::feeding::dirty;
 use cases::patterns::print_double;

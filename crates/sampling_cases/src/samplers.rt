@@ -1,3 +1,7 @@
+// Cases of samplers: B, the bit order, 1 where the low bit comes first, and the number of lent words; how the recording begins and the feeds, as
+// `cases::feeding` reads them.
+// Answer: the line of `cases::feeding`; a line with the last sampler's numbers: B, the words, n, the bit order, the lengths of the boards' unfinished bytes; for
+// each board a line with its unfinished bytes, and how many of its other places are not 0; a line with all words.
 use cases::feeding::{dirty, pending, record};
 use cases::printing::{end_line, print, print_all};
 use cases::reading::Reader;

@@ -1,3 +1,4 @@
+// Cases of the root: a pattern. Answer: the pattern of its root.
 use cases::patterns::{double, print_double};
 use cases::printing::end_line;
 use cases::reading::Reader;

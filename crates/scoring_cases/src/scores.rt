@@ -1,3 +1,4 @@
+// Cases of the score: n, c, i and k. Answer: the patterns of z at the share i / 2 ^ k and of |z|.
 use cases::patterns::print_double;
 use cases::printing::end_line;
 use cases::reading::Reader;

@@ -1,3 +1,4 @@
+// Cases of ranks: B, k and 20 bits, of which those past k mean nothing. Answer: the refusal and the rank.
 use cases::printing::{end_line, print};
 use cases::reading::Reader;
 use counting::refusal::refusal_of;

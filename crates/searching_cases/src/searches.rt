@@ -1,3 +1,10 @@
+// Cases of searches: B, the bit order, 1 where the low bit comes first, and the number of lent words; how the recording begins and the feeds, as
+// `cases::feeding` reads them; the number of searches, for each the first block and the end of the stretch, k, the lengths of the bin buffer, the order buffer
+// and the store, and 0 for the sampler last returned, or 1 and another sampler's eight numbers.
+// Answer: the line of `cases::feeding`; for each search, first with the store, then with none, a line with what it answers, the finding's bit order last, one
+// with the first 2 ^ k counts, one with the first 2 ^ k entries of the order, and one with how many other entries of the buffers and of the store are no longer
+// as lent, and of the store the sum of its counts, each times its place. Where it is refused, all entries are such others, and the sum is 0; so it is of a store
+// that does not suffice.
 use cases::entries::{changed, print_first, weighed};
 use cases::feeding::{dirty, record};
 use cases::patterns::print_double;

@@ -1,3 +1,6 @@
+// Recordings that are told in few numbers, so that a long one takes no room in the text: a seed, a weight, and a pattern, its length first.
+// For each byte a number is drawn from the one before, x becoming 48271 x mod 2^31 - 1, from the seed on. Where floor(x / 2^15) mod 256 is below the weight,
+// byte i is the pattern's at i modulo its length, else it is floor(x / 2^23).
 use cases::entries::repeated;
 use cases::reading::Reader;
 

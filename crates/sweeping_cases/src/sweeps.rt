@@ -1,10 +1,10 @@
-use counting::buffer::filled;
 use crate::recordings::record;
 use cases::entries::changed;
 use cases::input::large_buffer;
 use cases::patterns::print_double;
 use cases::printing::{end_line, print, print_all};
 use cases::reading::Reader;
+use counting::buffer::filled;
 use std::io;
 use std::io::Stdout;
 use sweeping::pair::Tested;
