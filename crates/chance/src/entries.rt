@@ -6,41 +6,63 @@ ghost use Rattle.chance.specs.Zeros.{Row};
 
 use counting::block::bin_count;
 
+// How a block's 2^k bins part: into the d that are positive and those without.
+#[derive(Clone, Copy)]
+struct Odds {
+    k: usize,
+    d: u64,
+    without: u64,
+    ghost parted: { (k ≤ 20) × (d < 2 ^ k) × (without ≡ 2 ^ k - d) },
+}
+
+impl Odds {
+    fn new(k: usize, d: u64) -> Odds
+        requires { (k ≤ 20) × (d < 2 ^ k) }
+        ensures { (result.k ≡ k) × (result.d ≡ d) }
+    {
+        Odds {
+            k,
+            d,
+            without: bin_count(k) as u64 - d,
+        }
+    }
+
+    // What a block makes of the entry x and the entry y before it.
+    fn next_entry(self, x: u64, y: u64) -> u64
+        requires { (x ≤ 2 ^ 40) × (y ≤ 2 ^ 40) }
+        ensures { result ≡ next_entry self.k self.d x y }
+    {
+        (x * self.without + y * self.d) >> self.k
+    }
+}
+
 // The entries after n blocks, at the start of the scratch.
 pub fn entries_after(n: usize, k: usize, d: u64, scratch: &mut [u64])
     requires { (n < length scratch.old) × (k ≤ 20) × (d < 2 ^ k) }
     ensures { scratch.new ≡ entries_after n k d ++ drop (suc n) scratch.old }
 {
-    let without = bin_count(k) as u64 - d;
+    let odds = Odds::new(k, d);
     scratch[0] = 1099511627776;
     let mut from: usize = 0;
     let mut to: usize = 1;
     for t in 0..n {
-        next_row(t + 1, from, to, k, without, d, scratch);
+        next_row(t + 1, from, to, odds, scratch);
         from = past_zeros(from, to + 1, scratch);
         to = before_zeros(from, to + 1, scratch);
     }
 }
 
 // One block more: from the m entries at the start m + 1 are made, from the highest down, so that each is read before it is replaced.
-fn next_row(m: usize, from: usize, to: usize, k: usize, without: u64, d: u64, scratch: &mut [u64])
-    requires m_in_bounds { (m < length scratch.old) × (k ≤ 20) × (d < 2 ^ k) × (without ≡ 2 ^ k - d) }
+fn next_row(m: usize, from: usize, to: usize, odds: Odds, scratch: &mut [u64])
+    requires m_in_bounds { m < length scratch.old }
     requires row { Row m from to scratch.old }
-    ensures { scratch.new ≡ next_row k d (take m scratch.old) ++ drop (suc m) scratch.old }
+    ensures { scratch.new ≡ next_row odds.k odds.d (take m scratch.old) ++ drop (suc m) scratch.old }
 {
     scratch[m] = 0;
     for j in (from..to).rev() {
-        scratch[j + 1] = next_entry(scratch[j + 1], scratch[j], k, without, d);
+        scratch[j + 1] = odds.next_entry(scratch[j + 1], scratch[j]);
     }
-    scratch[from] = next_entry(scratch[from], 0, k, without, d);
-}
-
-// What a block makes of the entry x and the entry y before it.
-fn next_entry(x: u64, y: u64, k: usize, without: u64, d: u64) -> u64
-    requires { (x ≤ 2 ^ 40) × (y ≤ 2 ^ 40) × (k ≤ 20) × (d < 2 ^ k) × (without ≡ 2 ^ k - d) }
-    ensures { result ≡ next_entry k d x y }
-{
-    (x * without + y * d) >> k
+    scratch[from] = odds.next_entry(scratch[from], 0);
 }
 
 // A place past zeros that the entries from `from` to before `to` begin with.

@@ -1,10 +1,11 @@
 -- `entries::entries_after` meets its contract: after t blocks the row of t blocks stands at the start, and only zeros are outside `from` and `to`.
-use mathlib.Core.Path.{refl, ◌∙◌}
+use mathlib.Core.Path.{refl, ap₂, ◌∙◌}
 use mathlib.Core.List.{List}
 use Prim.Native.Nat.{ℕ, ◌+◌}
 use native.Mathlib.Omega.{arith}
 use lib.ListN.{set}
 use Rattle.chance.proofs.Filling.{Filling, fill_begins, fill_more, ends_begin, ends_more, row_there}
+use Rattle.chance.proofs.InPlace.{after}
 use Rattle.chance.proofs.entries.entries_after.Goals.{After-next_row, At-loop-t}
 use Rattle.chance.proofs.entries.entries_after.Goals as goal
 
@@ -14,7 +15,8 @@ begun l = set l.args.scratch.now 0 1099511627776
 
 next : (d : After-next_row) → Filling (d.loop-t.t + 1) d.args.k d.args.d (set d.args.scratch.now 0 1099511627776) d.next_row.new.scratch
 next d =
-    d.next_row.ensures ∙ fill_more d.loop-t.t d.args.k d.args.d (set d.args.scratch.now 0 1099511627776) d.loop-t.scratch d.loop-t.invariant.1
+    d.next_row.ensures ∙ ap₂ (λ (k x : ℕ). after k x (d.loop-t.t + 1) d.loop-t.scratch) d.new-odds.ensures.0 d.new-odds.ensures.1
+    ∙ fill_more d.loop-t.t d.args.k d.args.d (set d.args.scratch.now 0 1099511627776) d.loop-t.scratch d.loop-t.invariant.1
 
 pub loop-t-init : goal.loop-t-init
 loop-t-init c =

@@ -4,4 +4,4 @@ use Rattle.chance.proofs.InPlace.{Making}
 use Rattle.chance.proofs.entries.next_row.Given as goal
 
 abbrev pub invariant-loop-j : goal.invariant-loop-j
-invariant-loop-j l = Making l.k l.d l.m l.initial.scratch l.j l.scratch × (l.from ≤ l.j)
+invariant-loop-j l = Making l.odds.k l.odds.d l.m l.initial.scratch l.j l.scratch × (l.from ≤ l.j)
