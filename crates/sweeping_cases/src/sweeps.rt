@@ -1,3 +1,8 @@
+// Cases of sweeps: the level, B, the bit order, 1 where the low bit comes first; how many words, entries of the store, bins, entries of the order, of the
+// scratch and of the bracket's scratch are lent, each 99; the number of the recording's bytes, and the recording.
+// Answer: a line with the refusal, the verdict's number and the pairs tested; a line with the pair of the lowest L and one with the last pair: B, width,
+// division, the pattern of z, 20 bits, the bit order, the blocks, the positive ones and both ends; a line with 0, or where refused with how many entries of
+// each buffer are no longer as lent.
 use crate::recordings::record;
 use cases::entries::changed;
 use cases::input::large_buffer;
@@ -5,10 +10,12 @@ use cases::patterns::print_double;
 use cases::printing::{end_line, print, print_all};
 use cases::reading::Reader;
 use counting::buffer::filled;
+use counting::refusal::refusal_of;
+use searching::finding::no_finding;
 use std::io;
 use std::io::Stdout;
 use sweeping::pair::Tested;
-use sweeping::sweep::sweep;
+use sweeping::sweep::{Swept, sweep};
 use sweeping::verdict::Verdict;
 
 // What a sweep is given beside the recording, and the recording's length.
@@ -82,32 +89,46 @@ fn answer(stdout: Stdout, case: Case, raw: &[u8]) -> io::Result<()> {
         scratch,
         entries,
     );
-    print(stdout, swept.refusal)?;
-    print(stdout, number_of(swept.verdict))?;
-    print(stdout, swept.tested)?;
-    end_line(stdout)?;
-    print_tested(stdout, swept.best)?;
-    print_tested(stdout, swept.last)?;
+    print(stdout, refusal_of(&swept))?;
     // Where there is no refusal the buffers are free, and 0 stands for them.
-    if swept.refusal == 0 {
+    if let Ok(swept) = swept {
+        print_swept(stdout, swept)?;
         print(stdout, 0)?;
-    } else {
-        print(stdout, changed(words, 0))?;
-        print(stdout, changed(store, 0))?;
-        print(stdout, changed(bins, 0))?;
-        print(stdout, changed(order, 0))?;
-        print(stdout, changed(scratch, 0))?;
-        print(stdout, changed(entries, 0))?;
+        return end_line(stdout);
     }
+    print_swept(stdout, nothing_swept())?;
+    print(stdout, changed(words, 0))?;
+    print(stdout, changed(store, 0))?;
+    print(stdout, changed(bins, 0))?;
+    print(stdout, changed(order, 0))?;
+    print(stdout, changed(scratch, 0))?;
+    print(stdout, changed(entries, 0))?;
     end_line(stdout)
 }
 
-fn number_of(verdict: Verdict) -> u8 {
-    match verdict {
-        Verdict::Undecided => 0,
-        Verdict::Rejected => 1,
-        Verdict::NotRejected => 2,
+// What stands beside a refusal.
+fn nothing_swept() -> Swept {
+    let none = Tested {
+        finding: no_finding(),
+        blocks: 0,
+        positive: 0,
+        low: 0,
+        high: 0,
+    };
+    Swept {
+        verdict: Verdict::Undecided,
+        tested: 0,
+        best: none,
+        last: none,
     }
+}
+
+fn print_swept(stdout: Stdout, swept: Swept) -> io::Result<()> {
+    print(stdout, swept.verdict as u8)?;
+    print(stdout, swept.tested)?;
+    end_line(stdout)?;
+    print_tested(stdout, swept.best)?;
+    print_tested(stdout, swept.last)
 }
 
 fn print_tested(stdout: Stdout, tested: Tested) -> io::Result<()> {
