@@ -11,6 +11,7 @@ pub fn read_full(stdin: Stdin, space: &mut [u8]) -> io::Result<usize>
 {
     let mut stdin = stdin;
     let mut done = 0;
+    // Kept: a turn goes on by what was read, so its step is no count.
     while done < space.len() {
         let read = stdin.read(&mut space[done..])?;
         if read == 0 {

@@ -80,6 +80,7 @@ fn next_digit(text: &[u8], at: usize) -> usize
     ensures { Onward text.now at result }
 {
     let mut i = at.min(text.len());
+    // Kept: a turn passes a whole comment, so its step is no count.
     while i < text.len() && !text[i].is_ascii_digit() {
         i = after(text, i);
     }

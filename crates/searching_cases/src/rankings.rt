@@ -1,6 +1,6 @@
 // Cases of the ranking of one subset: k, the length of the table of roots, the 2 ^ k counts.
 // Answer: a line with the division and the pattern of z, and a line with the order and the two entries past it, which stay as lent.
-ghost use Rattle.std.specs.Prelude.{◌≡◌, ◌^◌, ◌≤◌, IfSome, length, take};
+ghost use Rattle.std.specs.Prelude.{◌≡◌, ◌^◌, ◌≤◌, IfSome, length};
 ghost use Rattle.counting.specs.Sample.{total};
 
 use cases::patterns::print_double;

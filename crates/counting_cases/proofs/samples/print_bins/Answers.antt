@@ -1,5 +1,5 @@
 -- `samples::print_bins` is safe: there is room for 2 ^ 10 bins.
-use Rattle.std.proofs.Common.{◌≡◌, ℕ, ◌^◌, ◌≤◌, ◌∙◌, List, ap, arith, sym, length, take, replicate}
+use Rattle.std.proofs.Common.{◌≡◌, ℕ, ◌^◌, ◌≤◌, ◌∙◌, List, ap, arith, sym, length, replicate}
 use Rattle.std.proofs.Math.Pow.{pow_mono}
 use Rattle.std.proofs.lemmas.List.{length-replicate, length-take-le}
 use Rattle.counting_cases.proofs.samples.print_bins.Goals as goal
