@@ -29,6 +29,7 @@ pub fn listed_length(ns: &[u32]) -> usize
 }
 
 // Writes a number from place `at` on; answers the place behind it. Four digits at a time: their divisions do not wait for each other.
+// Kept: a buffer and a place in it stay two parameters; a struct with the `&mut` in it would be lent as a `&mut` to a `&mut`, and each promise would have to say too that the buffer is still the caller's.
 pub fn put_decimal(out: &mut [u8], at: usize, n: u32) -> usize
     requires { at + length (decimal n) ≤ length out.old }
     ensures value { result ≡ at + length (decimal n) }

@@ -1,8 +1,8 @@
 -- `decimals::digits` meets its contract: the powers of ten that are left lead to the number of digits.
-use Prim.Native.Nat.{ℕ, ◌+◌, ◌*◌, ◌^◌, ◌≤◌, ◌<◌}
+use Prim.Native.Nat.{ℕ, ◌+◌, ◌*◌, ◌^◌, ◌<◌}
 use mathlib.Core.Bool.{Bool, true, false, cond}
 use mathlib.Core.Path.{◌≡◌, refl, ap, ◌∙◌}
-use native.Mathlib.Nat.{pow-suc, pow-le-pow_right}
+use native.Mathlib.Nat.{pow-suc}
 use native.Mathlib.Numerals.{add-one}
 use native.Mathlib.Omega.{arith}
 use lib.Dec.{leb}
@@ -15,25 +15,11 @@ as_number : (b : Bool) → bool_byte b ≡ cond b 1 0
 as_number true = refl
 as_number false = refl
 
--- the powers fit
-power_most : (d : In-loop) → d.loop.power ≤ 100000000
-power_most d =
-    let most : d.loop.counter ≤ 8 = omega arith in
-    let ten : 0 < 10 = omega arith in
-    let bound : 10 ^ d.loop.counter ≤ 10 ^ 8 = pow-le-pow_right ten most in
-    omega (arith, d.loop.invariant.1, bound)
-
 more : (c : After-from-count) → c.from-count.result ≡ cond (leb (c.loop.power * 10) c.args.n) 1 0
 more c = c.from-count.ensures ∙ as_number (leb (c.loop.power * 10) c.args.n)
 
 pub loop-init : goal.loop-init
 loop-init c = (decimal_reached c.args.n, refl, omega arith)
-
-pub overflow_mul-power : goal.overflow_mul-power
-overflow_mul-power c = omega (arith, power_most c)
-
-pub overflow_add-count : goal.overflow_add-count
-overflow_add-count c = omega (arith, more c, one_at_most (leb (c.loop.power * 10) c.args.n))
 
 pub loop-preserved : goal.loop-preserved
 loop-preserved c =

@@ -17,9 +17,6 @@ fits d =
 pub bounds-out-to : goal.bounds-out-to
 bounds-out-to c = omega (arith, fits c)
 
-pub overflow_add-to : goal.overflow_add-to
-overflow_add-to c = omega (arith, fits (goal.at.overflow_add-to c).In-loop-n)
-
 pub put_decimal-to-requires : goal.put_decimal-to-requires
 put_decimal-to-requires c = simp length-set (omega (arith, fits (goal.at.put_decimal-to-requires c).In-loop-n))
 

@@ -1,6 +1,6 @@
 -- `decimals::put_short` meets its contract, by the number of digits.
 use Prim.Native.Nat.{◌<◌}
-use mathlib.Core.Path.{◌≡◌, ◌∙◌}
+use mathlib.Core.Path.{◌≡◌}
 use native.Mathlib.Omega.{arith}
 use lib.ListN.{length, length-set}
 use Rattle.exchange.specs.Writer.{decimal}
@@ -21,9 +21,6 @@ three t = digit_count 1 _ (omega arith) (omega arith) (omega arith)
 
 four : (t : Else-n-lt1000) → 4 ≡ length (decimal t.args.n)
 four t = digit_count 2 _ (omega arith) (omega arith) (omega arith)
-
-pub digit-requires : goal.digit-requires
-digit-requires c = omega arith
 
 pub bounds-out-at : goal.bounds-out-at
 bounds-out-at c = omega (arith, one (goal.at.bounds-out-at c).Then-n-lt10)
@@ -48,9 +45,6 @@ returns-then-n-lt100 c =
       out_after = whole.1;
     }
 
-pub digit-requires-then-n-lt1000 : goal.digit-requires-then-n-lt1000
-digit-requires-then-n-lt1000 c = omega arith
-
 pub bounds-out-at-then-n-lt1000 : goal.bounds-out-at-then-n-lt1000
 bounds-out-at-then-n-lt1000 c = omega (arith, three (goal.at.bounds-out-at-then-n-lt1000 c).Then-n-lt1000)
 
@@ -59,9 +53,6 @@ put_two-requires-then-n-lt1000 c = record {
   n_bound = omega arith;
   at_in_bounds = simp length-set (omega (arith, three (goal.at.put_two-requires-then-n-lt1000 c).Then-n-lt1000));
 }
-
-pub shape_of-out-then-n-lt1000 : goal.shape_of-out-then-n-lt1000
-shape_of-out-then-n-lt1000 c = c.put_two-then-n-lt1000.auto.out ∙ simp length-set
 
 pub returns-then-n-lt1000 : goal.returns-then-n-lt1000
 returns-then-n-lt1000 c =

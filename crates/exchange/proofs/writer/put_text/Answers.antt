@@ -1,22 +1,14 @@
 -- `writer::put_text` meets its contract: the arrays, and the numbers behind them.
-use borrow.Author.Rules.{rules}
 use Prim.Native.Nat.{◌+◌, ◌≤◌}
-use mathlib.Core.Path.{◌≡◌, sym, ap, ◌∙◌}
+use mathlib.Core.Path.{◌≡◌, ap, ◌∙◌}
 use native.Mathlib.Omega.{arith}
 use lib.ListN.{length, length-append}
-use lib.Seq.{length-take-le}
 use Rattle.judging.specs.Check.{chosen}
 use Rattle.exchange.specs.Writer.{arrays_text, numbers_text}
 use Rattle.exchange.specs.Exchange.{exchanged_of, finding_text}
 use Rattle.exchange.proofs.Pieces.{text_pieces, text_stands}
 use Rattle.exchange.proofs.writer.put_text.Goals.{Start}
 use Rattle.exchange.proofs.writer.put_text.Goals as goal
-
-size : (s : Start) → length s.args.finding.bits ≡ 20
-size s = search rules
-
-fits : (s : Start) → s.args.finding.width ≤ length s.args.finding.bits
-fits s = omega (arith, size s, s.requires.writable.width)
 
 -- both parts have room
 room : (s : Start) → let f = s.args.finding in
@@ -27,12 +19,6 @@ room s =
     let parts : length (finding_text f s.args.order.now) ≡ length (arrays_text (chosen f) s.args.order.now) + length (numbers_text f.division f.block_size f.low_first) =
     ap length (text_pieces e) ∙ length-append (arrays_text (chosen f) s.args.order.now) (numbers_text f.division f.block_size f.low_first) in
     omega (arith, parts, s.requires.order_in_bounds)
-
-pub slice_bounds-bits-end : goal.slice_bounds-bits-end
-slice_bounds-bits-end c = fits (goal.at.slice_bounds-bits-end c).Start
-
-pub slice_bounds-put_arrays-end : goal.slice_bounds-put_arrays-end
-slice_bounds-put_arrays-end c = sym (length-take-le _ _ (fits (goal.at.slice_bounds-put_arrays-end c).Start))
 
 pub put_arrays-at-requires : goal.put_arrays-at-requires
 put_arrays-at-requires c = omega (arith, room (goal.at.put_arrays-at-requires c).Start)

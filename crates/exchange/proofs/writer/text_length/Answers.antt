@@ -1,7 +1,7 @@
 -- `writer::text_length` meets its contract: 75 fixed bytes, the numbers, and true or false.
 use borrow.Author.Rules.{rules}
 use Prim.Native.Nat.{◌≤◌}
-use mathlib.Core.Path.{◌≡◌, sym}
+use mathlib.Core.Path.{◌≡◌}
 use native.Mathlib.Omega.{arith}
 use lib.ListN.{length}
 use lib.Seq.{length-take-le}
@@ -42,15 +42,6 @@ indices d =
 
 pub overflow_add-numbers : goal.overflow_add-numbers
 overflow_add-numbers c = omega (arith, (numbers c).0, (numbers c).1)
-
-pub slice_bounds-bits-end : goal.slice_bounds-bits-end
-slice_bounds-bits-end c = omega (arith, size (goal.at.slice_bounds-bits-end c).Start, c.requires.width)
-
-pub slice_bounds-listed_length-end : goal.slice_bounds-listed_length-end
-slice_bounds-listed_length-end c = sym (chosen_size (goal.at.slice_bounds-listed_length-end c).Start)
-
-pub listed_length-requires : goal.listed_length-requires
-listed_length-requires c = omega (arith, chosen_size (goal.at.listed_length-requires c).Start, c.requires.width)
 
 pub overflow_add-result : goal.overflow_add-result
 overflow_add-result c = omega (arith, bits c)
