@@ -1,5 +1,5 @@
 -- The bits before the last, one after the other: a prefix of a subset, its tables, and the bins of no bit.
-use mathlib.Core.Path.{◌≡◌, refl, sym, ap, ◌∙◌}
+use mathlib.Core.Path.{◌≡◌, refl, sym, ap, subst, ◌∙◌}
 use Prim.Native.Nat.{ℕ, zero, suc, ◌+◌, ◌-◌, ◌^◌, ◌≤◌, ◌<◌}
 use native.Mathlib.Omega.{arith}
 use mathlib.Core.List.{List, [], ◌∷◌, ◌++◌}
@@ -12,6 +12,7 @@ use Rattle.subsets.specs.Subsets.{Rising, Subset}
 use Rattle.subsets.specs.Choose.{choose}
 use Rattle.subsets.proofs.Carrying.{snoc}
 use Rattle.subsets.proofs.Listing.{bits_below}
+use Rattle.layers.specs.Store.{Holds}
 use Rattle.layers.specs.Gather.{Tables}
 use Rattle.layers.specs.Run.{last_bit, leading, Run}
 
@@ -19,6 +20,13 @@ rising_take : (lo hi m : ℕ) (s : List ℕ) → Rising lo hi s → Rising lo hi
 rising_take lo hi zero s r = tt
 rising_take lo hi (suc m) [] r = tt
 rising_take lo hi (suc m) (a ∷ s) r = (r.0, r.1, rising_take (suc a) hi m s r.2)
+
+-- a subset of k bits is one of as many as it has, and the store holds its counts
+pub as_many : (B k : ℕ) (s : List ℕ) → Subset B k s → Subset B (length s) s
+as_many B k s g = record { size = refl; rising = g.rising }
+
+pub held : (bit : ℕ → ℕ → ℕ) (n B k : ℕ) (s store : List ℕ) → Subset B k s → Holds bit n B k store → Holds bit n B (length s) store
+held bit n B k s store g h = subst (λ (m : ℕ). Holds bit n B m store) (sym g.size) h
 
 -- the first m bits of a subset are one
 pub subset_take : (B m : ℕ) (s : List ℕ) → m ≤ length s → Subset B (length s) s → Subset B m (take m s)

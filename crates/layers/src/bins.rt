@@ -11,38 +11,119 @@ use crate::gather::gather;
 use crate::settle::{reduce, settle};
 use counting::stretch::{Stretch, span};
 
-// The first half of the bins are those of the bits before the last. The blocks that have the last bit set go to the second half, whose entries with at
-// least some bits set stand in the store; all bits are k only for a candidate, and `count` is then its own. What is left in the first half has it not set.
-// The first entries of parts are free.
-fn split_bins(
-    bits: &[u32],
-    k: usize,
-    count: u32,
-    words: &[u64],
-    stretch: Stretch,
-    store: &[u32],
-    run: &[u32],
-    parts: &mut [u32],
-    bins: &mut [u32],
-)
-    requires in_bounds { (1 ≤ length bits.now) × (length bits.now ≤ k) × (k ≤ 20) }
-    requires subset { Subset stretch.block_size (length bits.now) bits.now }
-    requires count_value { length bits.now ≡ k → count ≡ all_set (stretch_bit stretch words.now) (span stretch) bits.now }
-    requires holds { Holds (stretch_bit stretch words.now) (span stretch) stretch.block_size k store.now }
-    requires tables { Tables stretch.block_size k bits.now run.now }
-    requires bits_in_bounds { (2 ^ length bits.now ≤ length parts.old) × (2 ^ length bits.now ≤ length bins.old) }
-    requires halved { Halved (stretch_bit stretch words.now) (span stretch) bits.now bins.old }
-    ensures bins_after { bins.new ≡ counts_of (stretch_bit stretch words.now) (span stretch) bits.now ++ drop (2 ^ length bits.now) bins.old }
-    ensures parts_unchanged { drop (2 ^ length bits.now) parts.new ≡ drop (2 ^ length bits.now) parts.old }
-{
-    let last = bits.len() - 1;
-    let half: usize = 1 << last as u32;
-    let all = 2 * half;
-    let end = kept_numbers(all, bits.len(), k);
-    bins[all - 1] = count;
-    gather(bits, stretch.block_size, k, end, store, run, parts, bins);
-    settle(&mut bins[half..all], last);
-    reduce(bins, 0, half);
+// What a search by layers goes by: a stretch of the words, the width at which it is searched, and the store with the counts of the smaller subsets.
+// Kept: that the words hold the stretch is a clause of those that read it, since `compute_bins`, which docs/RULES.md names, does not ask for it.
+#[derive(Clone, Copy)]
+pub struct Layered<'a> {
+    pub words: &'a [u64],
+    pub stretch: Stretch,
+    pub k: usize,
+    pub store: &'a [u32],
+    ghost width: { (1 ≤ k) × (k ≤ 20) },
+    ghost holds: { Holds (stretch_bit stretch words.now) (span stretch) stretch.block_size k store.now },
+}
+
+impl Layered<'_> {
+    // The first half of the bins are those of the bits before the last. The blocks that have the last bit set go to the second half, whose entries with at
+    // least some bits set stand in the store; all bits are k only for a candidate, and `count` is then its own. What is left in the first half has it not set.
+    // The first entries of parts are free.
+    fn split_bins(&self, bits: &[u32], count: u32, run: &[u32], parts: &mut [u32], bins: &mut [u32])
+        requires in_bounds { (1 ≤ length bits.now) × (length bits.now ≤ self.now.k) }
+        requires subset { Subset self.now.stretch.block_size (length bits.now) bits.now }
+        requires count_value { length bits.now ≡ self.now.k → count ≡ all_set (stretch_bit self.now.stretch self.now.words.now) (span self.now.stretch) bits.now }
+        requires tables { Tables self.now.stretch.block_size self.now.k bits.now run.now }
+        requires bits_in_bounds { (2 ^ length bits.now ≤ length parts.old) × (2 ^ length bits.now ≤ length bins.old) }
+        requires halved { Halved (stretch_bit self.now.stretch self.now.words.now) (span self.now.stretch) bits.now bins.old }
+        ensures bins_after { bins.new ≡ counts_of (stretch_bit self.now.stretch self.now.words.now) (span self.now.stretch) bits.now ++ drop (2 ^ length bits.now) bins.old }
+        ensures parts_unchanged { drop (2 ^ length bits.now) parts.new ≡ drop (2 ^ length bits.now) parts.old }
+    {
+        let last = bits.len() - 1;
+        let half: usize = 1 << last as u32;
+        let all = 2 * half;
+        let end = kept_numbers(all, bits.len(), self.k);
+        bins[all - 1] = count;
+        gather(
+            bits,
+            self.stretch.block_size,
+            self.k,
+            end,
+            self.store,
+            run,
+            parts,
+            bins,
+        );
+        settle(&mut bins[half..all], last);
+        reduce(bins, 0, half);
+    }
+
+    // The bins of the bits before the last: those of no bit, which are all blocks, split by one bit after the other.
+    fn leading_bins(&self, bits: &[u32], run: &[u32], parts: &mut [u32], bins: &mut [u32])
+        requires within { Within self.now.stretch }
+        requires subset { Subset self.now.stretch.block_size self.now.k bits.now }
+        requires tables { Tables self.now.stretch.block_size (length bits.now) bits.now run.now }
+        requires bits_in_bounds { (2 ^ length bits.now ≤ length parts.old) × (2 ^ length bits.now ≤ length bins.old) }
+        ensures halved { Halved (stretch_bit self.now.stretch self.now.words.now) (span self.now.stretch) bits.now bins.new }
+        ensures bins_unchanged { drop (2 ^ length bits.now) bins.new ≡ drop (2 ^ length bits.now) bins.old }
+        ensures parts_unchanged { drop (2 ^ length bits.now) parts.new ≡ drop (2 ^ length bits.now) parts.old }
+    {
+        let k = bits.len();
+        bins[0] = span(self.stretch);
+        for m in 1..k {
+            self.split_bins(&bits[..m], 0, run, parts, bins);
+        }
+    }
+
+    // The same where the bits are three or more, and else nothing: the bins of fewer are written straight.
+    pub fn share_bins(&self, bits: &[u32], run: &[u32], parts: &mut [u32], bins: &mut [u32])
+        requires within { Within self.now.stretch }
+        requires subset { Subset self.now.stretch.block_size self.now.k bits.now }
+        requires tables { Tables self.now.stretch.block_size (length bits.now) bits.now run.now }
+        requires bits_in_bounds { (2 ^ length bits.now ≤ length parts.old) × (2 ^ length bits.now ≤ length bins.old) }
+        ensures shared { Shared (stretch_bit self.now.stretch self.now.words.now) (span self.now.stretch) bits.now bins.new }
+        ensures bins_unchanged { drop (2 ^ length bits.now) bins.new ≡ drop (2 ^ length bits.now) bins.old }
+        ensures parts_unchanged { drop (2 ^ length bits.now) parts.new ≡ drop (2 ^ length bits.now) parts.old }
+    {
+        if bits.len() < 3 {
+            return;
+        }
+        self.leading_bins(bits, run, parts, bins);
+    }
+
+    // The bin counts of a candidate of three bits or more, whose run stands.
+    pub fn compute_bins(&self, bits: &[u32], run: &[u32], parts: &mut [u32], bins: &mut [u32])
+        requires wide { 3 ≤ self.now.k }
+        requires subset { Subset self.now.stretch.block_size self.now.k bits.now }
+        requires run { Run (stretch_bit self.now.stretch self.now.words.now) (span self.now.stretch) self.now.stretch.block_size bits.now run.now }
+        requires shared { Shared (stretch_bit self.now.stretch self.now.words.now) (span self.now.stretch) bits.now bins.old }
+        requires bits_in_bounds { (2 ^ length bits.now ≤ length parts.old) × (2 ^ length bits.now ≤ length bins.old) }
+        ensures bins_after { bins.new ≡ counts_of (stretch_bit self.now.stretch self.now.words.now) (span self.now.stretch) bits.now ++ drop (2 ^ length bits.now) bins.old }
+        ensures parts_unchanged { drop (2 ^ length bits.now) parts.new ≡ drop (2 ^ length bits.now) parts.old }
+    {
+        let k = bits.len();
+        let count = run[441 + bits[k - 1] as usize];
+        self.split_bins(bits, count, run, parts, bins);
+    }
+
+    // Those of one of one bit or two, written straight: a search for so few would wait for loops longer than for these.
+    // Apart from the others, since the machine code would make a copy of each slice that is passed on before it looks at the width.
+    pub fn few_bins(&self, bits: &[u32], run: &[u32], bins: &mut [u32])
+        requires few { self.now.k ≤ 2 }
+        requires within { Within self.now.stretch }
+        requires subset { Subset self.now.stretch.block_size self.now.k bits.now }
+        requires run { Run (stretch_bit self.now.stretch self.now.words.now) (span self.now.stretch) self.now.stretch.block_size bits.now run.now }
+        requires bits_in_bounds { 2 ^ length bits.now ≤ length bins.old }
+        ensures { bins.new ≡ counts_of (stretch_bit self.now.stretch self.now.words.now) (span self.now.stretch) bits.now ++ drop (2 ^ length bits.now) bins.old }
+    {
+        let last = bits[bits.len() - 1] as usize;
+        let count = run[441 + last];
+        let n = span(self.stretch);
+        if bits.len() == 1 {
+            single_bins(n, count, bins);
+            return;
+        }
+        let before = bits[0] as usize;
+        pair_bins(n, self.store[before], self.store[last], count, bins);
+    }
 }
 
 // Of the numbers below `all` that choose among m bits those whose subset is kept: all but the last, which chooses all of them, where they are k.
@@ -51,109 +132,6 @@ fn kept_numbers(all: usize, m: usize, k: usize) -> usize
     ensures { (m < k → result ≡ all) × (k ≤ m → result + 1 ≡ all) }
 {
     if m < k { all } else { all - 1 }
-}
-
-// The bins of the bits before the last: those of no bit, which are all blocks, split by one bit after the other.
-fn leading_bins(
-    bits: &[u32],
-    words: &[u64],
-    stretch: Stretch,
-    store: &[u32],
-    run: &[u32],
-    parts: &mut [u32],
-    bins: &mut [u32],
-)
-    requires in_bounds { (1 ≤ length bits.now) × (length bits.now ≤ 20) × Within stretch }
-    requires subset { Subset stretch.block_size (length bits.now) bits.now }
-    requires holds { Holds (stretch_bit stretch words.now) (span stretch) stretch.block_size (length bits.now) store.now }
-    requires tables { Tables stretch.block_size (length bits.now) bits.now run.now }
-    requires bits_in_bounds { (2 ^ length bits.now ≤ length parts.old) × (2 ^ length bits.now ≤ length bins.old) }
-    ensures halved { Halved (stretch_bit stretch words.now) (span stretch) bits.now bins.new }
-    ensures bins_unchanged { drop (2 ^ length bits.now) bins.new ≡ drop (2 ^ length bits.now) bins.old }
-    ensures parts_unchanged { drop (2 ^ length bits.now) parts.new ≡ drop (2 ^ length bits.now) parts.old }
-{
-    let k = bits.len();
-    bins[0] = span(stretch);
-    for m in 1..k {
-        split_bins(&bits[..m], k, 0, words, stretch, store, run, parts, bins);
-    }
-}
-
-// The same where the bits are three or more, and else nothing: the bins of fewer are written straight.
-pub fn share_bins(
-    bits: &[u32],
-    words: &[u64],
-    stretch: Stretch,
-    store: &[u32],
-    run: &[u32],
-    parts: &mut [u32],
-    bins: &mut [u32],
-)
-    requires in_bounds { (1 ≤ length bits.now) × (length bits.now ≤ 20) × Within stretch }
-    requires subset { Subset stretch.block_size (length bits.now) bits.now }
-    requires holds { Holds (stretch_bit stretch words.now) (span stretch) stretch.block_size (length bits.now) store.now }
-    requires tables { Tables stretch.block_size (length bits.now) bits.now run.now }
-    requires bits_in_bounds { (2 ^ length bits.now ≤ length parts.old) × (2 ^ length bits.now ≤ length bins.old) }
-    ensures shared { Shared (stretch_bit stretch words.now) (span stretch) bits.now bins.new }
-    ensures bins_unchanged { drop (2 ^ length bits.now) bins.new ≡ drop (2 ^ length bits.now) bins.old }
-    ensures parts_unchanged { drop (2 ^ length bits.now) parts.new ≡ drop (2 ^ length bits.now) parts.old }
-{
-    if bits.len() < 3 {
-        return;
-    }
-    leading_bins(bits, words, stretch, store, run, parts, bins);
-}
-
-// The bin counts of a candidate of three bits or more, whose run stands.
-pub fn compute_bins(
-    bits: &[u32],
-    words: &[u64],
-    stretch: Stretch,
-    store: &[u32],
-    run: &[u32],
-    parts: &mut [u32],
-    bins: &mut [u32],
-)
-    requires in_bounds { (3 ≤ length bits.now) × (length bits.now ≤ 20) }
-    requires subset { Subset stretch.block_size (length bits.now) bits.now }
-    requires holds { Holds (stretch_bit stretch words.now) (span stretch) stretch.block_size (length bits.now) store.now }
-    requires run { Run (stretch_bit stretch words.now) (span stretch) stretch.block_size bits.now run.now }
-    requires shared { Shared (stretch_bit stretch words.now) (span stretch) bits.now bins.old }
-    requires bits_in_bounds { (2 ^ length bits.now ≤ length parts.old) × (2 ^ length bits.now ≤ length bins.old) }
-    ensures bins_after { bins.new ≡ counts_of (stretch_bit stretch words.now) (span stretch) bits.now ++ drop (2 ^ length bits.now) bins.old }
-    ensures parts_unchanged { drop (2 ^ length bits.now) parts.new ≡ drop (2 ^ length bits.now) parts.old }
-{
-    let k = bits.len();
-    let count = run[441 + bits[k - 1] as usize];
-    split_bins(bits, k, count, words, stretch, store, run, parts, bins);
-}
-
-// Those of one of one bit or two, written straight: a search for so few would wait for loops longer than for these.
-// Apart from the others, since the machine code would make a copy of each slice that is passed on before it looks at the width.
-pub fn few_bins(
-    bits: &[u32],
-    words: &[u64],
-    stretch: Stretch,
-    store: &[u32],
-    run: &[u32],
-    bins: &mut [u32],
-)
-    requires in_bounds { (1 ≤ length bits.now) × (length bits.now ≤ 2) × Within stretch }
-    requires subset { Subset stretch.block_size (length bits.now) bits.now }
-    requires holds { Holds (stretch_bit stretch words.now) (span stretch) stretch.block_size (length bits.now) store.now }
-    requires run { Run (stretch_bit stretch words.now) (span stretch) stretch.block_size bits.now run.now }
-    requires bits_in_bounds { 2 ^ length bits.now ≤ length bins.old }
-    ensures { bins.new ≡ counts_of (stretch_bit stretch words.now) (span stretch) bits.now ++ drop (2 ^ length bits.now) bins.old }
-{
-    let last = bits[bits.len() - 1] as usize;
-    let count = run[441 + last];
-    let n = span(stretch);
-    if bits.len() == 1 {
-        single_bins(n, count, bins);
-        return;
-    }
-    let before = bits[0] as usize;
-    pair_bins(n, store[before], store[last], count, bins);
 }
 
 // The four bins of two bits.

@@ -6,14 +6,13 @@ ghost use Rattle.counting.specs.Stretch.{StretchIn, span, stretch_bit};
 ghost use Rattle.subsets.specs.Subsets.{Subset};
 ghost use Rattle.subsets.specs.Stepping.{Stepped};
 ghost use Rattle.subsets.specs.Choose.{choose};
-ghost use Rattle.layers.specs.Store.{store_size, Holds};
+ghost use Rattle.layers.specs.Store.{store_size};
 ghost use Rattle.layers.specs.Gather.{Tops, Tables};
 ghost use Rattle.layers.specs.Run.{Shared, Run, last_bit, leading};
 
-use crate::bins::{rejoin_bins, share_bins};
+use crate::bins::{Layered, rejoin_bins};
 use crate::size::widest;
 use counting::rows::multi_eval;
-use counting::stretch::Stretch;
 use subsets::stepping::successor;
 
 // After entry `at`, the ways to choose 1, 2, .., `most` of m.
@@ -46,90 +45,85 @@ fn fill_ways(bits: &[u32], block_size: usize, run: &mut [u32])
     }
 }
 
-// The counts of the run of the bits; those of a single bit stand in the store.
-fn count_run(bits: &[u32], words: &[u64], stretch: Stretch, store: &[u32], run: &mut [u32])
-    requires in_bounds { (1 ≤ length bits.now) × (length bits.now ≤ 20) × (stretch.block_size < 4294967296) }
-    requires subset { Subset stretch.block_size (length bits.now) bits.now }
-    requires stretch_in { StretchIn stretch (length words.now) }
-    requires holds { Holds (stretch_bit stretch words.now) (span stretch) stretch.block_size (length bits.now) store.now }
-    requires block_size_in_bounds { 441 + stretch.block_size ≤ length run.old }
-    ensures by_index { (b : ℕ) → last_bit bits.now ≤ b → b < stretch.block_size → get_or run.new (441 + b) 0 ≡ all_set (stretch_bit stretch words.now) (span stretch) (leading bits.now ++ (b ∷ [])) }
-    ensures run_unchanged { take 441 run.new ≡ take 441 run.old }
-{
-    let end = 441 + stretch.block_size;
-    let at = bits.len() - 1;
-    if at == 0 {
-        run[441..end].copy_from_slice(&store[..stretch.block_size]);
-        return;
+impl Layered<'_> {
+    // The counts of the run of the bits; those of a single bit stand in the store.
+    fn count_run(&self, bits: &[u32], run: &mut [u32])
+        requires block_size_bound { self.now.stretch.block_size < 4294967296 }
+        requires subset { Subset self.now.stretch.block_size self.now.k bits.now }
+        requires stretch_in { StretchIn self.now.stretch (length self.now.words.now) }
+        requires block_size_in_bounds { 441 + self.now.stretch.block_size ≤ length run.old }
+        ensures by_index { (b : ℕ) → last_bit bits.now ≤ b → b < self.now.stretch.block_size → get_or run.new (441 + b) 0 ≡ all_set (stretch_bit self.now.stretch self.now.words.now) (span self.now.stretch) (leading bits.now ++ (b ∷ [])) }
+        ensures run_unchanged { take 441 run.new ≡ take 441 run.old }
+    {
+        let end = 441 + self.stretch.block_size;
+        let at = bits.len() - 1;
+        if at == 0 {
+            run[441..end].copy_from_slice(&self.store[..self.stretch.block_size]);
+            return;
+        }
+        let last = bits[at] as usize;
+        let start = 441 + last;
+        multi_eval(
+            &bits[..at],
+            last,
+            self.words,
+            self.stretch,
+            &mut run[start..end],
+        );
     }
-    let last = bits[at] as usize;
-    let start = 441 + last;
-    multi_eval(&bits[..at], last, words, stretch, &mut run[start..end]);
-}
 
-// The run of the bits, from them on, and the bins that its candidates share; the other bins among the first 2^k, and so many parts, are free.
-pub fn begin_run(
-    bits: &[u32],
-    words: &[u64],
-    stretch: Stretch,
-    store: &[u32],
-    run: &mut [u32],
-    parts: &mut [u32],
-    bins: &mut [u32],
-)
-    requires in_bounds { (1 ≤ length bits.now) × (length bits.now ≤ 20) × (stretch.block_size < 4294967296) }
-    requires subset { Subset stretch.block_size (length bits.now) bits.now }
-    requires stretch_in { StretchIn stretch (length words.now) }
-    requires holds { Holds (stretch_bit stretch words.now) (span stretch) stretch.block_size (length bits.now) store.now }
-    requires tops { Tops stretch.block_size (length bits.now) run.old }
-    requires bits_in_bounds { (2 ^ length bits.now ≤ length parts.old) × (2 ^ length bits.now ≤ length bins.old) }
-    ensures run { Run (stretch_bit stretch words.now) (span stretch) stretch.block_size bits.now run.new }
-    ensures shared { Shared (stretch_bit stretch words.now) (span stretch) bits.now bins.new }
-    ensures bins_unchanged { drop (2 ^ length bits.now) bins.new ≡ drop (2 ^ length bits.now) bins.old }
-    ensures parts_unchanged { drop (2 ^ length bits.now) parts.new ≡ drop (2 ^ length bits.now) parts.old }
-{
-    fill_ways(bits, stretch.block_size, run);
-    count_run(bits, words, stretch, store, run);
-    share_bins(bits, words, stretch, store, run, parts, bins);
-}
+    // The run of the bits, from them on, and the bins that its candidates share; the other bins among the first 2^k, and so many parts, are free.
+    pub fn begin_run(&self, bits: &[u32], run: &mut [u32], parts: &mut [u32], bins: &mut [u32])
+        requires block_size_bound { self.now.stretch.block_size < 4294967296 }
+        requires subset { Subset self.now.stretch.block_size self.now.k bits.now }
+        requires stretch_in { StretchIn self.now.stretch (length self.now.words.now) }
+        requires tops { Tops self.now.stretch.block_size (length bits.now) run.old }
+        requires bits_in_bounds { (2 ^ length bits.now ≤ length parts.old) × (2 ^ length bits.now ≤ length bins.old) }
+        ensures run { Run (stretch_bit self.now.stretch self.now.words.now) (span self.now.stretch) self.now.stretch.block_size bits.now run.new }
+        ensures shared { Shared (stretch_bit self.now.stretch self.now.words.now) (span self.now.stretch) bits.now bins.new }
+        ensures bins_unchanged { drop (2 ^ length bits.now) bins.new ≡ drop (2 ^ length bits.now) bins.old }
+        ensures parts_unchanged { drop (2 ^ length bits.now) parts.new ≡ drop (2 ^ length bits.now) parts.old }
+    {
+        fill_ways(bits, self.stretch.block_size, run);
+        self.count_run(bits, run);
+        self.share_bins(bits, run, parts, bins);
+    }
 
-// Steps from a k-subset, whose bins stand, to the next, and its run with it; false where the bits are the last. Within a run the counts stand, and the bins
-// of the leading bits are put together again.
-pub fn advance(
-    bits: &mut [u32],
-    k: usize,
-    words: &[u64],
-    stretch: Stretch,
-    store: &[u32],
-    run: &mut [u32],
-    parts: &mut [u32],
-    bins: &mut [u32],
-) -> bool
-    requires le_k { (1 ≤ k) × (k ≤ 20) × (stretch.block_size < 4294967296) }
-    requires subset { Subset stretch.block_size k (take k bits.old) }
-    requires stretch_in { StretchIn stretch (length words.now) }
-    requires holds { Holds (stretch_bit stretch words.now) (span stretch) stretch.block_size k store.now }
-    requires run { Run (stretch_bit stretch words.now) (span stretch) stretch.block_size (take k bits.old) run.old }
-    requires k_in_bounds { (2 ^ k ≤ length parts.old) × (2 ^ k ≤ length bins.old) }
-    requires bins_value { take (2 ^ k) bins.old ≡ counts_of (stretch_bit stretch words.now) (span stretch) (take k bits.old) }
-    ensures stepped { Stepped stretch.block_size k bits.old result bits.new }
-    ensures run_2 { result ≡ true → Run (stretch_bit stretch words.now) (span stretch) stretch.block_size (take k bits.new) run.new }
-    ensures shared { result ≡ true → Shared (stretch_bit stretch words.now) (span stretch) (take k bits.new) bins.new }
-    ensures tops { Tops stretch.block_size k run.new }
-    ensures bins_unchanged { (drop (2 ^ k) bins.new ≡ drop (2 ^ k) bins.old) × (drop (2 ^ k) parts.new ≡ drop (2 ^ k) parts.old) }
-{
-    let block_size = stretch.block_size;
-    let at = k - 1;
-    let bit = bits[at] + 1;
-    if (bit as usize) < block_size {
-        bits[at] = bit;
-        run[k * 21 + 1] = (block_size - 1) as u32 - bit;
-        rejoin_bins(bins, k);
-        return true;
+    // Steps from a k-subset, whose bins stand, to the next, and its run with it; false where the bits are the last. Within a run the counts stand, and the bins
+    // of the leading bits are put together again.
+    pub fn advance(
+        &self,
+        bits: &mut [u32],
+        run: &mut [u32],
+        parts: &mut [u32],
+        bins: &mut [u32],
+    ) -> bool
+        requires block_size_bound { self.now.stretch.block_size < 4294967296 }
+        requires subset { Subset self.now.stretch.block_size self.now.k (take self.now.k bits.old) }
+        requires stretch_in { StretchIn self.now.stretch (length self.now.words.now) }
+        requires run { Run (stretch_bit self.now.stretch self.now.words.now) (span self.now.stretch) self.now.stretch.block_size (take self.now.k bits.old) run.old }
+        requires k_in_bounds { (2 ^ self.now.k ≤ length parts.old) × (2 ^ self.now.k ≤ length bins.old) }
+        requires bins_value { take (2 ^ self.now.k) bins.old ≡ counts_of (stretch_bit self.now.stretch self.now.words.now) (span self.now.stretch) (take self.now.k bits.old) }
+        ensures stepped { Stepped self.now.stretch.block_size self.now.k bits.old result bits.new }
+        ensures run_2 { result ≡ true → Run (stretch_bit self.now.stretch self.now.words.now) (span self.now.stretch) self.now.stretch.block_size (take self.now.k bits.new) run.new }
+        ensures shared { result ≡ true → Shared (stretch_bit self.now.stretch self.now.words.now) (span self.now.stretch) (take self.now.k bits.new) bins.new }
+        ensures tops { Tops self.now.stretch.block_size self.now.k run.new }
+        ensures bins_unchanged { (drop (2 ^ self.now.k) bins.new ≡ drop (2 ^ self.now.k) bins.old) × (drop (2 ^ self.now.k) parts.new ≡ drop (2 ^ self.now.k) parts.old) }
+    {
+        let k = self.k;
+        let block_size = self.stretch.block_size;
+        let at = k - 1;
+        let bit = bits[at] + 1;
+        if (bit as usize) < block_size {
+            bits[at] = bit;
+            run[k * 21 + 1] = (block_size - 1) as u32 - bit;
+            rejoin_bins(bins, k);
+            return true;
+        }
+        if !successor(bits, k, block_size) {
+            return false;
+        }
+        self.begin_run(&bits[..k], run, parts, bins);
+        true
     }
-    if !successor(bits, k, block_size) {
-        return false;
-    }
-    begin_run(&bits[..k], words, stretch, store, run, parts, bins);
-    true
 }

@@ -1,5 +1,6 @@
 -- Laws that the functions' proofs cite, and the claim.
 pub mod Filled
+pub mod Layering
 pub mod Walking
 pub mod Refusing
 pub mod Stored

@@ -1,8 +1,10 @@
 -- One pass over the subsets: what it needs of its arguments, and what it leaves.
-use Rattle.std.specs.Prelude.{ℕ, ◌^◌, ◌≤◌, ◌<◌, ◌≡◌, false, List, ◌++◌, length, drop}
+use Rattle.std.specs.Prelude.{ℕ, ◌^◌, ◌≤◌, ◌<◌, ◌≡◌, false, List, [], ◌++◌, length, drop, Option, Some, None}
+use Rattle.std.specs.Option.{ForSome}
 use Rattle.counting.specs.Sample.{counts_of}
 use Rattle.counting.specs.Stretch.{StretchIn}
 use Rattle.counting.specs.declared.stretch.Stretch.{Stretch}
+use Rattle.layers.specs.declared.bins.Layered.{Layered}
 use Rattle.layers.specs.Gather.{Tops}
 use Rattle.layers.specs.Run.{Shared, Run}
 use Rattle.layers.specs.Store.{Holds}
@@ -25,6 +27,20 @@ BufferRoom k bins order = (2 ^ k ≤ length bins) × (2 ^ k ≤ length order)
 -- the store that a candidate's bins are worked out from: none, where every bin is counted, or one that holds the counts of the smaller subsets
 pub record FromStore (bit : ℕ → ℕ → ℕ) (n B k : ℕ) (store : List ℕ) : Type 0 where
   pub holds : 0 < length store → Holds bit n B k store
+
+-- a search by layers goes over this sample
+pub record Over (words : List ℕ) (x : Stretch) (k : ℕ) (layered : Layered) : Type 0 where
+  pub same_words : layered.words.now ≡ words
+  pub same_stretch : layered.stretch ≡ x
+  pub same_width : layered.k ≡ k
+
+abbrev pub IfOver : List ℕ → Stretch → ℕ → Option Layered → Type 0
+IfOver words x k layered = ForSome layered (Over words x k)
+
+-- the store that it has; none where every bin is counted
+abbrev pub store_in : Option Layered → List ℕ
+store_in None = []
+store_in (Some layered) = layered.store.now
 
 -- where a store is lent, there is room for the numbers of a run, and in them the places in the store
 abbrev pub Space : ℕ → ℕ → List ℕ → List ℕ → Type 0

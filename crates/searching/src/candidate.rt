@@ -5,20 +5,19 @@ ghost use Rattle.counting.specs.Stretch.{span, stretch_bit};
 ghost use Rattle.ranking.specs.Order.{order_of};
 ghost use Rattle.subsets.specs.Subsets.{Subset};
 ghost use Rattle.searching.specs.Finding.{ranking_of};
-ghost use Rattle.searching.specs.Pass.{BufferRoom, Ready};
+ghost use Rattle.searching.specs.Pass.{BufferRoom, store_in, Ready};
 
 use crate::pass::Pass;
 use counting::block::bin_count;
 use counting::rows::multi_eval_neg;
 use counting::stretch::span;
-use layers::bins::{compute_bins, few_bins};
 use ranking::ranking::{Ranking, from_bins};
 
 impl Pass<'_> {
     // Ranks the bits: their counts go to the bin buffer, their bin order to the order buffer. Entries past the 2 ^ k bins stay.
     pub fn rank(&self, bits: &[u32], run: &[u32], bins: &mut [u32], order: &mut [u32]) -> Ranking
         requires subset { Subset self.now.sample.stretch.block_size self.now.sample.k bits.now }
-        requires ready { Ready (stretch_bit self.now.sample.stretch self.now.sample.words.now) (span self.now.sample.stretch) self.now.sample.stretch.block_size self.now.store.now bits.now run.now bins.old }
+        requires ready { Ready (stretch_bit self.now.sample.stretch self.now.sample.words.now) (span self.now.sample.stretch) self.now.sample.stretch.block_size (store_in self.now.layered) bits.now run.now bins.old }
         requires buffer_room { BufferRoom self.now.sample.k bins.old order.old }
         ensures value { result ≡ ranking_of (stretch_bit self.now.sample.stretch self.now.sample.words.now) (span self.now.sample.stretch) bits.now }
         ensures bins_after { bins.new ≡ counts_of (stretch_bit self.now.sample.stretch self.now.sample.words.now) (span self.now.sample.stretch) bits.now ++ drop (2 ^ self.now.sample.k) bins.old }
@@ -37,22 +36,20 @@ impl Pass<'_> {
     // The counts of the bits' bins: all counted where no store is lent, else worked out from it. The first entries of the order buffer are free.
     fn fill_bins(&self, bits: &[u32], run: &[u32], order: &mut [u32], bins: &mut [u32])
         requires subset { Subset self.now.sample.stretch.block_size self.now.sample.k bits.now }
-        requires ready { Ready (stretch_bit self.now.sample.stretch self.now.sample.words.now) (span self.now.sample.stretch) self.now.sample.stretch.block_size self.now.store.now bits.now run.now bins.old }
+        requires ready { Ready (stretch_bit self.now.sample.stretch self.now.sample.words.now) (span self.now.sample.stretch) self.now.sample.stretch.block_size (store_in self.now.layered) bits.now run.now bins.old }
         requires buffer_room { BufferRoom self.now.sample.k bins.old order.old }
         ensures bins_after { bins.new ≡ counts_of (stretch_bit self.now.sample.stretch self.now.sample.words.now) (span self.now.sample.stretch) bits.now ++ drop (2 ^ self.now.sample.k) bins.old }
         ensures order_unchanged { drop (2 ^ self.now.sample.k) order.new ≡ drop (2 ^ self.now.sample.k) order.old }
     {
-        let words = self.sample.words;
-        let stretch = self.sample.stretch;
-        if self.store.len() == 0 {
+        let Some(layered) = &self.layered else {
             let m = bin_count(bits.len());
-            multi_eval_neg(bits, words, stretch, &mut bins[..m]);
+            multi_eval_neg(bits, self.sample.words, self.sample.stretch, &mut bins[..m]);
             return;
-        }
+        };
         if bits.len() < 3 {
-            few_bins(bits, words, stretch, self.store, run, bins);
+            layered.few_bins(bits, run, bins);
             return;
         }
-        compute_bins(bits, words, stretch, self.store, run, order, bins);
+        layered.compute_bins(bits, run, order, bins);
     }
 }

@@ -4,22 +4,22 @@ ghost use Rattle.counting.specs.Stretch.{span, stretch_bit};
 ghost use Rattle.ranking.specs.Ranking.{Roots};
 ghost use Rattle.subsets.specs.Subsets.{padded};
 ghost use Rattle.searching.specs.Finding.{winner_of};
-ghost use Rattle.searching.specs.Pass.{BufferRoom, FromStore, Space, PastSame, Won};
+ghost use Rattle.searching.specs.Pass.{BufferRoom, FromStore, IfOver, store_in, Space, PastSame, Won};
 
 use crate::finding::Finding;
 use crate::sample::Sample;
 use counting::stretch::span;
+use layers::bins::Layered;
 use ranking::ranking::fill_roots;
 use subsets::stepping::first;
 
-// What a pass goes by: the sample, the store that the bins are worked out from, which is empty where every bin is counted, and the roots for its divisions.
-// Kept: no store is an empty one; tried as an Option it proved, and a search of 256 blocks of 64 bits at k 3 took 7.2 ms in place of 6.6.
+// What a pass goes by: the sample, what its bins are worked out from, which is none where every bin is counted, and the roots for its divisions.
 #[derive(Clone, Copy)]
 pub struct Pass<'a> {
     pub sample: Sample<'a>,
-    pub store: &'a [u32],
+    pub layered: Option<Layered<'a>>,
     pub roots: &'a [f64],
-    ghost from_store: { FromStore (stretch_bit sample.stretch sample.words.now) (span sample.stretch) sample.stretch.block_size sample.k store.now },
+    ghost over: { IfOver sample.words.now sample.stretch sample.k layered },
     ghost rooted: { Roots (span sample.stretch) sample.k roots.now },
 }
 
@@ -44,7 +44,7 @@ pub fn find(
     fill_roots(roots, span(sample.stretch), k);
     let pass = Pass {
         sample: *sample,
-        store,
+        layered: by_layers(sample, store),
         roots,
     };
     let bits = pass.pick(run, bins, order);
@@ -61,16 +61,33 @@ pub fn find(
     }
 }
 
+// What a search by layers goes by where the store is not empty.
+fn by_layers<'a>(sample: &Sample<'a>, store: &'a [u32]) -> Option<Layered<'a>>
+    requires from_store { FromStore (stretch_bit sample.now.stretch sample.now.words.now) (span sample.now.stretch) sample.now.stretch.block_size sample.now.k store.now }
+    ensures over { IfOver sample.now.words.now sample.now.stretch sample.now.k result }
+    ensures store_is { store_in result ≡ store.now }
+{
+    if store.len() == 0 {
+        return None;
+    }
+    Some(Layered {
+        words: sample.words,
+        stretch: sample.stretch,
+        k: sample.k,
+        store,
+    })
+}
+
 // Kept: bins, order and that both have room stand in each contract: a struct that holds two `&mut` would need, in place of that clause, two that say that it
 // still holds the same slices, since a call that is lent the struct may put others there.
 impl Pass<'_> {
     // The best k-subset. A block of k bits has one only, which the pass would rank twice.
     // The first 2 ^ k entries of the buffers are free, and of run all but the places in the store.
     fn pick(&self, run: &mut [u32], bins: &mut [u32], order: &mut [u32]) -> [u32; 20]
-        requires space { Space self.now.sample.stretch.block_size self.now.sample.k self.now.store.now run.old }
+        requires space { Space self.now.sample.stretch.block_size self.now.sample.k (store_in self.now.layered) run.old }
         requires buffer_room { BufferRoom self.now.sample.k bins.old order.old }
         ensures value { result ≡ padded (winner_of (stretch_bit self.now.sample.stretch self.now.sample.words.now) (span self.now.sample.stretch) self.now.sample.stretch.block_size self.now.sample.k) }
-        ensures space_2 { Space self.now.sample.stretch.block_size self.now.sample.k self.now.store.now run.new }
+        ensures space_2 { Space self.now.sample.stretch.block_size self.now.sample.k (store_in self.now.layered) run.new }
         ensures past_same { PastSame self.now.sample.k bins.old order.old bins.new order.new }
     {
         let k = self.sample.k;
@@ -84,10 +101,10 @@ impl Pass<'_> {
     // The pass: a later subset takes the place of the best so far only where its z is greater.
     // The first 2 ^ k entries of the buffers, left at the last candidate, are free, and of run all but the places in the store.
     fn walk(&self, run: &mut [u32], bins: &mut [u32], order: &mut [u32]) -> [u32; 20]
-        requires space { Space self.now.sample.stretch.block_size self.now.sample.k self.now.store.now run.old }
+        requires space { Space self.now.sample.stretch.block_size self.now.sample.k (store_in self.now.layered) run.old }
         requires buffer_room { BufferRoom self.now.sample.k bins.old order.old }
         ensures value { result ≡ padded (winner_of (stretch_bit self.now.sample.stretch self.now.sample.words.now) (span self.now.sample.stretch) self.now.sample.stretch.block_size self.now.sample.k) }
-        ensures space_2 { Space self.now.sample.stretch.block_size self.now.sample.k self.now.store.now run.new }
+        ensures space_2 { Space self.now.sample.stretch.block_size self.now.sample.k (store_in self.now.layered) run.new }
         ensures past_same { PastSame self.now.sample.k bins.old order.old bins.new order.new }
     {
         let k = self.sample.k;

@@ -6,7 +6,7 @@ use Rattle.counting.specs.Sample.{counts_of}
 use Rattle.counting.specs.Stretch.{span, stretch_bit}
 use Rattle.subsets.specs.Choose.{choose}
 use Rattle.subsets.specs.Rank.{rank_of}
-use Rattle.searching.specs.Pass.{Standing, PastSame}
+use Rattle.searching.specs.Pass.{store_in, Standing, PastSame}
 use Rattle.searching.proofs.Walking.{Walked}
 use Rattle.searching.proofs.pass.Pass.walk.Given as goal
 
@@ -18,7 +18,7 @@ invariant-pass l = record {
   bins_lent : length l.bins ≡ length l.initial.bins;
   order_lent : length l.order ≡ length l.initial.order;
   past_same : PastSame l.self.sample.k l.initial.bins l.initial.order l.bins l.order;
-  standing : Standing (stretch_bit l.self.sample.stretch l.self.sample.words.now) (span l.self.sample.stretch) l.self.sample.stretch.block_size l.self.store.now (take l.self.sample.k l.bits) l.run;
+  standing : Standing (stretch_bit l.self.sample.stretch l.self.sample.words.now) (span l.self.sample.stretch) l.self.sample.stretch.block_size (store_in l.self.layered) (take l.self.sample.k l.bits) l.run;
   counted : take (2 ^ l.self.sample.k) l.bins ≡ counts_of (stretch_bit l.self.sample.stretch l.self.sample.words.now) (span l.self.sample.stretch) (take l.self.sample.k l.bits);
 }
 

@@ -1,6 +1,6 @@
--- `bins::leading_bins` meets its contract: with m - 1 bits taken, the first 2^(m - 1) bins are theirs.
+-- `Layered::leading_bins` meets its contract: with m - 1 bits taken, the first 2^(m - 1) bins are theirs.
 use Prim.Native.Nat.{ℕ, ◌+◌, ◌-◌, ◌^◌, ◌≤◌, ◌<◌}
-use mathlib.Core.Path.{◌≡◌, refl, sym, ap, ◌∙◌}
+use mathlib.Core.Path.{◌≡◌, refl, sym, ap, subst, ◌∙◌}
 use native.Mathlib.Omega.{arith}
 use mathlib.Core.List.{List, []}
 use lib.ListN.{length, get_or, take, drop, set, length-set}
@@ -8,9 +8,10 @@ use lib.Pow.{pow_pos, pow_mono}
 use lib.Seq.{length-take-le, take-take, drop-set-lt, get_or-set_same}
 use Rattle.counting.specs.Sample.{count_in}
 use Rattle.counting.specs.Stretch.{span, stretch_bit}
-use Rattle.layers.proofs.Leading.{subset_take, tables_take, none_counted, counts_at, counts_past}
+use Rattle.layers.specs.Gather.{Tables}
+use Rattle.layers.proofs.Leading.{as_many, subset_take, tables_take, none_counted, counts_at, counts_past}
 use Rattle.layers.proofs.Parting.{past_larger}
-use Rattle.layers.proofs.bins.leading_bins.Goals as goal
+use Rattle.layers.proofs.bins.Layered.leading_bins.Goals as goal
 
 -- the first m bits but the last of them
 shorter : (m : ℕ) (bits : List ℕ) → m ≤ length bits → take (m - 1) (take m bits) ≡ take (m - 1) bits
@@ -20,15 +21,15 @@ pub loop-m-init : goal.loop-m-init
 loop-m-init c =
     let a = c.args in record {
       some = omega arith;
-      within = c.requires.in_bounds.0;
+      within = omega (arith, c.requires.subset.size, a.self.now.width);
       part_size = refl;
       bin_size = refl;
       counted = λ v h.
           let z : v ≡ 0 = omega arith in
           ap (λ (x : ℕ). get_or (set a.bins.now 0 c.span.result) x 0) z
           ∙ get_or-set_same a.bins.now 0 c.span.result 0 (omega (arith, pow_pos (length a.bits.now), c.requires.bits_in_bounds.1))
-          ∙ c.span.ensures ∙ none_counted (stretch_bit a.stretch a.words.now) (span a.stretch)
-          ∙ ap (count_in (stretch_bit a.stretch a.words.now) (span a.stretch) []) (sym z);
+          ∙ c.span.ensures ∙ none_counted (stretch_bit a.self.now.stretch a.self.now.words.now) (span a.self.now.stretch)
+          ∙ ap (count_in (stretch_bit a.self.now.stretch a.self.now.words.now) (span a.self.now.stretch) []) (sym z);
       bin_rest = refl;
       part_rest = refl;
     }
@@ -36,20 +37,19 @@ loop-m-init c =
 pub split_bins-requires : goal.split_bins-requires
 split_bins-requires c =
     let a = c.args in
-    let B = a.stretch.block_size in
+    let B = a.self.now.stretch.block_size in
     let b = a.bits.now in
     let m = c.loop-m.m in
     let w = c.loop-m.invariant in
     let size : length (take m b) ≡ m = length-take-le m b w.within in
     let small : 2 ^ m ≤ 2 ^ length b = pow_mono w.within in
     rw size (record {
-      in_bounds = (w.some, w.within, c.requires.in_bounds.1);
-      subset = subset_take B m b w.within c.requires.subset;
-      count_value = λ e. absurd (omega (arith, c.loop-m-test.true));
-      holds = c.requires.holds;
-      tables = tables_take B (length b) m b a.run.now w.within c.requires.tables;
+      in_bounds = (w.some, omega (arith, w.within, c.requires.subset.size));
+      subset = subset_take B m b w.within (as_many B a.self.now.k b c.requires.subset);
+      count_value = λ e. absurd (omega (arith, c.loop-m-test.true, c.requires.subset.size));
+      tables = tables_take B a.self.now.k m b a.run.now w.within (subst (λ (n : ℕ). Tables B n b a.run.now) c.requires.subset.size c.requires.tables);
       bits_in_bounds = (omega (arith, small, w.part_size, c.requires.bits_in_bounds.0), omega (arith, small, w.bin_size, length-set a.bins.now 0 c.span.result, c.requires.bits_in_bounds.1));
-      halved = λ v h. w.counted v h ∙ ap (λ (p : List ℕ). count_in (stretch_bit a.stretch a.words.now) (span a.stretch) p v) (sym (shorter m b w.within));
+      halved = λ v h. w.counted v h ∙ ap (λ (p : List ℕ). count_in (stretch_bit a.self.now.stretch a.self.now.words.now) (span a.self.now.stretch) p v) (sym (shorter m b w.within));
     })
 
 pub loop-m-preserved : goal.loop-m-preserved
@@ -59,8 +59,8 @@ loop-m-preserved c =
     let m = c.loop-m.m in
     let w = c.loop-m.invariant in
     let r = c.split_bins in
-    let bit = stretch_bit a.stretch a.words.now in
-    let n = span a.stretch in
+    let bit = stretch_bit a.self.now.stretch a.self.now.words.now in
+    let n = span a.self.now.stretch in
     let size : length (take m b) ≡ m = length-take-le m b w.within in
     let small : 2 ^ length (take m b) ≤ 2 ^ length b = pow_mono (let h : length (take m b) ≤ length b = omega (arith, w.within) in h) in
     let back : m + 1 - 1 ≡ m = omega arith in record {

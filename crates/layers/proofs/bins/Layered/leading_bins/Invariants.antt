@@ -1,11 +1,11 @@
--- `bins::leading_bins` meets its contract: with m - 1 bits taken, the first 2^(m - 1) bins are theirs.
+-- `Layered::leading_bins` meets its contract: with m - 1 bits taken, the first 2^(m - 1) bins are theirs.
 use Prim.Native.Nat.{ℕ, ◌-◌, ◌^◌, ◌≤◌, ◌<◌}
 use mathlib.Core.Path.{◌≡◌}
 use mathlib.Core.List.{List}
 use lib.ListN.{length, get_or, take, drop}
 use Rattle.counting.specs.Sample.{count_in}
 use Rattle.counting.specs.Stretch.{span, stretch_bit}
-use Rattle.layers.proofs.bins.leading_bins.Given as goal
+use Rattle.layers.proofs.bins.Layered.leading_bins.Given as goal
 
 -- the first 2^(m - 1) bins are those of the first m - 1 bits, and past the 2^k bins and parts nothing has changed
 pub record Split (bit : ℕ → ℕ → ℕ) (n : ℕ) (bits parts₀ bins₀ : List ℕ) (m : ℕ) (parts bins : List ℕ) : Type 0 where
@@ -18,4 +18,4 @@ pub record Split (bit : ℕ → ℕ → ℕ) (n : ℕ) (bits parts₀ bins₀ : 
   pub part_rest : drop (2 ^ length bits) parts ≡ drop (2 ^ length bits) parts₀
 
 abbrev pub invariant-loop-m : goal.invariant-loop-m
-invariant-loop-m l = Split (stretch_bit l.stretch l.words) (span l.stretch) l.bits l.initial.parts l.initial.bins l.m l.parts l.bins
+invariant-loop-m l = Split (stretch_bit l.self.stretch l.self.words.now) (span l.self.stretch) l.bits l.initial.parts l.initial.bins l.m l.parts l.bins
