@@ -11,24 +11,24 @@ use Rattle.counting.proofs.Accepted.{passed}
 use Rattle.sampling.specs.Carrying.{carried_of, carried_words}
 use Rattle.sampling.specs.Feeding.{taken_of, next_head, fed_unfinished, fed_of, fed_words}
 use Rattle.sampling.specs.Sampler.{started_of, started_words}
-use Rattle.sampling.specs.declared.carrying.Carried.{Carried}
+use Rattle.sampling.specs.Carrying.{Carried}
 use Rattle.sampling.specs.declared.carrying.Earlier.{Earlier}
-use Rattle.sampling.specs.declared.feeding.Taken.{Taken}
+use Rattle.sampling.specs.Feeding.{Taken}
 use Rattle.sampling.specs.declared.sampler.Head.{Head}
-use Rattle.sampling.specs.declared.sampler.Started.{Started}
+use Rattle.sampling.specs.Sampler.{Started}
 use Rattle.sampling.proofs.Usable.{taken_refusal, head_is}
 use Rattle.searching.specs.Search.{BottomupSearch}
-use Rattle.searching.specs.declared.finding.Searched.{Searched}
+use Rattle.searching.specs.Finding.{Searched}
 use Rattle.judging.specs.Evaluation.{evaluated_of, evaluated_scratch}
 use Rattle.judging.specs.Plan.{plan_of}
 use Rattle.judging.specs.Split.{split_refusal, first_part, second_part}
-use Rattle.judging.specs.declared.evaluation.Evaluated.{Evaluated}
-use Rattle.judging.specs.declared.plan.Plan.{Plan}
+use Rattle.judging.specs.Evaluation.{Evaluated}
+use Rattle.judging.specs.Plan.{Plan}
 use Rattle.sweeping.specs.Sweep.{swept_of, room_of, LentWhereRefused}
-use Rattle.sweeping.specs.declared.sweep.Swept.{Swept}
+use Rattle.sweeping.specs.Sweep.{Swept}
 use Rattle.exchange.specs.Exchange.{Writes, Reads}
-use Rattle.exchange.specs.declared.reader.Reading.{Reading}
-use Rattle.exchange.specs.declared.writer.Written.{Written}
+use Rattle.exchange.specs.Exchange.{Reading}
+use Rattle.exchange.specs.Exchange.{Written}
 use Rattle.exports.specs.Records.{finding_numbers, finding_read, evaluated_numbers, plan_numbers, swept_numbers, written, finding_unread, evaluation_unread}
 use Rattle.exports.specs.Samplers.{sampler_numbers, head_of, earlier_of, SamplerWritten, sampler_room, sampler_unread, feed_unread, search_unread, carry_unread}
 use Rattle.exports.specs.Calls.{StartCall, FeedCall, CarryCall, Answered, BottomupCall, EvaluateCall, WriteCall, ReadCall, SplitCall, PlanCall, SweepCall}

@@ -8,10 +8,14 @@ use native.Mathlib.Decide.{dec_le}
 use native.Mathlib.Nat.{zero-add}
 use native.Mathlib.Omega.{arith}
 use lib.Dec.{eqb}
+use lib.Ieee.{Float}
 use lib.ListN.{length, get_or, take, drop, length-drop}
 use lib.Pow.{pow_mono, pow_pos}
 use lib.Seq.{length-take-le, get_or-take}
 use borrow.Author.Tests.{le-leb, le-ltb}
+use Rattle.std.specs.Prelude.{Result, Err}
+use Rattle.counting.specs.Refusal.{number_of}
+use Rattle.counting.specs.declared.refusal.Refusal.{Refusal}
 use Rattle.counting.specs.Sample.{Below}
 use Rattle.counting.proofs.Accepted.{valid_facts}
 use Rattle.ranking.specs.Ranking.{zero_score}
@@ -25,13 +29,12 @@ use Rattle.searching.specs.declared.finding.Finding.{Finding}
 use Rattle.searching.proofs.Refusing.{or_first, neither}
 use Rattle.judging.specs.Check.{chosen, limit_refusal, length_refusal, shape_refusal, scratch_refusal, division_refusal, order_refusal, early_check_refusal, check_refusal, checked_scratch}
 use Rattle.judging.specs.Permutation.{each_once}
-use Rattle.judging.specs.Evaluation.{testing_blocks, counts_in, blocks_refusal, early_evaluation_refusal, evaluation_refusal, evaluated_of, scratch_after, evaluated_scratch}
-use Rattle.judging.specs.declared.evaluation.Evaluated.{Evaluated}
+use Rattle.judging.specs.Evaluation.{testing_blocks, counts_in, blocks_refusal, early_evaluation_refusal, evaluation_refusal, Evaluated, as_evaluated, answer_with, evaluated_of, scratch_after, evaluated_scratch}
+use Rattle.judging.specs.declared.evaluation.Evaluated as found
 use Rattle.judging.specs.declared.evaluation.Score.TheVariants.{NoSample}
 use Rattle.judging.proofs.Checking.{Limits, limits, ordered, as_lent}
 use Rattle.judging.proofs.Evaluating.{answer_refused, scratch_lent}
-use Rattle.exchange.specs.Exchange.{Writes}
-use Rattle.exchange.specs.declared.writer.Written.{Written}
+use Rattle.exchange.specs.Exchange.{Writes, Written}
 use Rattle.exchange.proofs.Acceptance.{writes_refused, refused_answer, refused_first}
 use Rattle.exports.specs.Records.{finding_read}
 use Rattle.exports.specs.Findings.{subset_refusal, narrowed, Readable, ReadsNoFurther}
@@ -132,19 +135,24 @@ module _ (f : Finding) (r : ℕ) (is : r ≡ subset_refusal f) (some : r ≡ 0 �
       writes_refused f order scratch out r scratch (refused_first f order (length scratch) (length out) r c.0 some) some c.1
 
   pub evaluation_refused :
-      (order bytes scratch : List ℕ) (a : Evaluated) → a ≡ record { refusal = r; positive = 0; score = NoSample }
-      → (a ≡ evaluated_of f order bytes (length scratch)) × (scratch ≡ evaluated_scratch f order bytes scratch)
+      (order bytes scratch : List ℕ) (a : Result found.Evaluated Refusal) (e : Refusal) → a ≡ Err e → number_of e ≡ r
+      → (as_evaluated a ≡ evaluated_of f order bytes (length scratch)) × (scratch ≡ evaluated_scratch f order bytes scratch)
   unfolding evaluated_of evaluated_scratch evaluation_refusal early_evaluation_refusal
-  evaluation_refused order bytes scratch a answer =
+  evaluation_refused order bytes scratch a e answer number =
       let n = testing_blocks f bytes in
-      let e : r ≡ early_evaluation_refusal f (length order) n (length scratch) = early_is (length order) (or_else (blocks_refusal n) (scratch_refusal f.width (length scratch))) in
-      let h : early_evaluation_refusal f (length order) n (length scratch) ≡ 0 → ⊥ = λ z. some (e ∙ z) in
-      let whole = e ∙ or_first _ (order_refusal f.width f.division order) h in (
-        answer ∙ ap (λ (x : ℕ). record { refusal = x; positive = 0; score = NoSample }) whole ∙ answer_refused _ _ _ _ (λ z. some (whole ∙ z)),
+      let first : r ≡ early_evaluation_refusal f (length order) n (length scratch) = early_is (length order) (or_else (blocks_refusal n) (scratch_refusal f.width (length scratch))) in
+      let h : early_evaluation_refusal f (length order) n (length scratch) ≡ 0 → ⊥ = λ z. some (first ∙ z) in
+      let whole = first ∙ or_first _ (order_refusal f.width f.division order) h in (
+        answer_refused a e _ _ _ _ answer (number ∙ whole),
         scratch_lent _ _ f.width _ scratch h,
       )
 
 -- ---- a division that 32 bits do not hold
+
+-- the answer beside a refusal
+answer_by : (r n positive : ℕ) (z : Float) → (r ≡ 0 → ⊥) → ◌≡◌ {A = Evaluated} (record { refusal = r; positive = 0; score = NoSample }) (answer_with r n positive z)
+answer_by zero n positive z h = absurd (h refl)
+answer_by (suc r) n positive z h = refl
 
 large : (d m : ℕ) → 1 ≤ m → m ≤ d → division_refusal d m ≡ 14
 unfolding division_refusal
@@ -203,7 +211,7 @@ module _ (f : Finding) (w : f.width ≤ 20) (above : 4294967295 < f.division) wh
   evaluated_above order bytes scratch =
       let r = evaluation_above order bytes scratch in
       let some = some_above order bytes scratch in
-      sym (answer_refused _ _ _ _ (λ z. some (sym r ∙ z))) ∙ ap (λ (x : ℕ). record { refusal = x; positive = 0; score = NoSample }) r ∙ answer_refused _ _ _ _ some
+      sym (answer_by _ _ _ _ (λ z. some (sym r ∙ z))) ∙ ap (λ (x : ℕ). record { refusal = x; positive = 0; score = NoSample }) r ∙ answer_by _ _ _ _ some
 
   scratch_above : (order bytes scratch : List ℕ) → evaluated_scratch (narrowed f) order bytes scratch ≡ evaluated_scratch f order bytes scratch
   unfolding evaluated_scratch early_evaluation_refusal shape_refusal limit_refusal

@@ -1,4 +1,5 @@
 -- Laws that several functions cite.
+pub mod Asking
 pub mod Writing
 pub mod Lending
 pub mod Calling

@@ -8,7 +8,7 @@ use lib.Dec.{eqb}
 use lib.ListN.{length, set, drop, get_or}
 use borrow.Author.Tests.{eq-eqb, ne_eqb}
 use Rattle.sampling.specs.Feeding.{next_head}
-use Rattle.sampling.specs.declared.feeding.Taken.{Taken}
+use Rattle.sampling.specs.Feeding.{Taken}
 use Rattle.sampling.specs.declared.sampler.Head.{Head}
 use Rattle.exports.specs.Records.{order_number, written}
 use Rattle.exports.specs.Samplers.{sampler_numbers, head_of}

@@ -9,6 +9,8 @@ use lib.ListN.{length, set, take, drop, get_or, replicate, length-append}
 use lib.Seq.{take-suc, drop-cons, drop-drop, drop-length, set_at, take_at, drop_at, length-take-le}
 use borrow.Rule.Slice.PartMut.{put_mid}
 use Rattle.searching.specs.declared.finding.Finding.{Finding}
+use Rattle.judging.specs.Plan.{sizes_in, widths_in}
+use Rattle.judging.specs.declared.plan.Planned.{Planned}
 use Rattle.sweeping.specs.declared.pair.Tested.{Tested}
 use Rattle.exports.specs.Records.{order_number, finding_numbers, tested_numbers, written}
 
@@ -97,6 +99,27 @@ plan_written (x ∷ l) blocks widths a h b w =
     ∙ drop-drop (length widths) (length blocks) l
     ∙ ap (λ (n : ℕ). drop n l) (sym (length-append blocks widths)) in
     ap (λ (t : List ℕ). (t ++ widths) ++ drop (8 + length widths) (p ++ d)) first ∙ ap (λ (t : List ℕ). (p ++ widths) ++ t) rest
+
+-- seven pairs one by one
+abbrev none : Planned
+none = record { block_size = 0; width = 0 }
+
+abbrev pub seven_sizes : List Planned → List ℕ
+seven_sizes l = (get_or l 0 none).block_size ∷ (get_or l 1 none).block_size ∷ (get_or l 2 none).block_size ∷ (get_or l 3 none).block_size ∷ (get_or l 4 none).block_size ∷ (get_or l 5 none).block_size ∷ (get_or l 6 none).block_size ∷ []
+
+abbrev pub seven_widths : List Planned → List ℕ
+seven_widths l = (get_or l 0 none).width ∷ (get_or l 1 none).width ∷ (get_or l 2 none).width ∷ (get_or l 3 none).width ∷ (get_or l 4 none).width ∷ (get_or l 5 none).width ∷ (get_or l 6 none).width ∷ []
+
+pub seven_pairs : (l : List Planned) → length l ≡ 7 → (seven_sizes l ≡ sizes_in l) × (seven_widths l ≡ widths_in l)
+seven_pairs [] h = absurd (omega (arith, h))
+seven_pairs (a ∷ []) h = absurd (omega (arith, h))
+seven_pairs (a ∷ b ∷ []) h = absurd (omega (arith, h))
+seven_pairs (a ∷ b ∷ c ∷ []) h = absurd (omega (arith, h))
+seven_pairs (a ∷ b ∷ c ∷ d ∷ []) h = absurd (omega (arith, h))
+seven_pairs (a ∷ b ∷ c ∷ d ∷ e ∷ []) h = absurd (omega (arith, h))
+seven_pairs (a ∷ b ∷ c ∷ d ∷ e ∷ f ∷ []) h = absurd (omega (arith, h))
+seven_pairs (a ∷ b ∷ c ∷ d ∷ e ∷ f ∷ g ∷ []) h = (refl, refl)
+seven_pairs (a ∷ b ∷ c ∷ d ∷ e ∷ f ∷ g ∷ x ∷ l) h = absurd (omega (arith, h))
 
 -- the same at the place that the numbers end at
 end_more : (s l : List ℕ) (m v : ℕ) → length s ≡ m → m < length l → set (written s l) m v ≡ written (s ++ (v ∷ [])) l

@@ -9,7 +9,7 @@ use Rattle.sampling.specs.Stretch.{stretch_of}
 use Rattle.sampling.specs.declared.sampler.Head.{Head}
 use Rattle.searching.specs.Refusal.{bottomup_refusal}
 use Rattle.searching.specs.Search.{answer_of, BottomupSearch}
-use Rattle.searching.specs.declared.finding.Searched.{Searched}
+use Rattle.searching.specs.Finding.{Searched}
 use Rattle.judging.specs.Check.{check_refusal, checked_scratch}
 use Rattle.judging.specs.Evaluation.{evaluated_of, evaluated_scratch}
 use Rattle.chance.specs.Bracket.{bracket_of, bracket_scratch}

@@ -1,17 +1,21 @@
 -- Records as numbers in a lent slice.
-use Rattle.std.specs.Prelude.{ℕ, min, Bool, cond, List, [], ◌∷◌, ◌++◌, leb, eqb, length, get_or, take, drop}
+use Rattle.std.specs.Prelude.{ℕ, min, Bool, cond, List, [], ◌∷◌, ◌++◌, leb, eqb, length, get_or, take, drop, replicate}
 use Rattle.std.specs.Float.{binary64}
 use Rattle.std.specs.Float.Ieee.{to_bits}
 use Rattle.ranking.specs.Ranking.{zero_score}
 use Rattle.subsets.specs.Subsets.{padded}
 use Rattle.searching.specs.declared.finding.Finding.{Finding}
-use Rattle.judging.specs.declared.evaluation.Evaluated.{Evaluated}
+use Rattle.judging.specs.Evaluation.{Evaluated}
 use Rattle.judging.specs.declared.evaluation.Score.{Score}
 use Rattle.judging.specs.declared.evaluation.Score.TheVariants.{Z, NoSample}
-use Rattle.judging.specs.declared.plan.Plan.{Plan}
+use Rattle.judging.specs.Plan.{Plan}
+use Rattle.judging.specs.declared.plan.Plan as planned
+use Rattle.sweeping.specs.Progress.{none_tested}
 use Rattle.sweeping.specs.Verdict.{verdict_number}
+use Rattle.sweeping.specs.declared.verdict.Verdict.TheVariants.{Undecided}
 use Rattle.sweeping.specs.declared.pair.Tested.{Tested}
-use Rattle.sweeping.specs.declared.sweep.Swept.{Swept}
+use Rattle.sweeping.specs.Sweep.{Swept}
+use Rattle.sweeping.specs.declared.sweep.Swept as answered
 
 -- a bit order: 1 where the low bit comes first, 0 where the high bit does
 abbrev pub order_number : Bool → ℕ
@@ -78,3 +82,10 @@ tested_numbers t = finding_numbers t.finding ++ (t.blocks ∷ t.positive ∷ t.l
 -- a sweep: the verdict's number, how many pairs were tested, the best pair's 29 numbers, the last one's
 abbrev pub swept_numbers : Swept → List ℕ
 swept_numbers s = verdict_number s.verdict ∷ s.tested ∷ (tested_numbers s.best ++ tested_numbers s.last)
+
+-- beside a refusal of a plan and of a sweep every number is 0
+abbrev pub no_plan : planned.Plan
+no_plan = record { pairs = 0; sizes = replicate 7 (record { block_size = 0; width = 0 }) }
+
+abbrev pub no_sweep : answered.Swept
+no_sweep = record { verdict = Undecided; tested = 0; best = none_tested; last = none_tested }

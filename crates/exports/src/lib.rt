@@ -12,25 +12,28 @@ ghost use Rattle.exports.specs.Single.{RankingCall};
 
 use crate::findings::{evaluate_lent, validate_lent, write_lent};
 use crate::records::{
-    evaluation_unread, finding_unread, pattern, rank_of, write_evaluated, write_finding,
-    write_plan, write_swept,
+    evaluation_unread, finding_unread, no_plan, no_sweep, pattern, rank_of, write_evaluated,
+    write_finding, write_plan, write_swept,
 };
 use crate::samplers::{
     carry_unread, feed_unread, read_earlier, read_head, sampler_room, sampler_unread,
     search_unread, write_sampler, write_taken,
 };
 use crate::single::{ranking_refusal, total_of};
-use chance::bracket::bracket;
+use chance::bracket::{Ends, bracket};
 use counting::block::bin_count;
+use counting::refusal::{Refusal, refusal_of};
 use exchange::reader::read_finding;
 use exchange::writer::longest_text;
+use judging::evaluation::{Evaluated, Score};
 use judging::plan::configurations;
 use judging::split::{first_part, second_part, split_refusal};
 use layers::size::store_needed;
 use ranking::ranking::from_bins;
 use sampling::carrying::carry_over;
 use sampling::feeding::feed_lent;
-use sampling::sampler::{blocks, start};
+use sampling::sampler::{blocks, no_sampler, start};
+use searching::finding::no_finding;
 use searching::search::bottomup;
 use sweeping::sweep::sweep;
 
@@ -50,12 +53,14 @@ pub extern "C" fn jimrawel_start(
 ) -> u32
     ensures { StartCall block_size low_first words.old sampler.old unfinished.old result words.new sampler.new unfinished.new }
 {
-    if sampler_room(sampler.len(), unfinished.len()) != 0 {
-        return 25;
+    let room = sampler_room(sampler.len(), unfinished.len());
+    if room.is_err() {
+        return refusal_of(&room);
     }
     let started = start(block_size, low_first, words);
-    write_sampler(started.sampler, sampler, unfinished);
-    started.refusal
+    let refusal = refusal_of(&started);
+    write_sampler(started.unwrap_or(no_sampler()), sampler, unfinished);
+    refusal
 }
 
 // feed: takes the board's next piece; the sampler that it returns is in the place of the one given. Refusals 25, 27, 4, 21, 5.
@@ -70,8 +75,8 @@ pub extern "C" fn jimrawel_feed(
     ensures { FeedCall sampler.old unfinished.old words.old board piece.now result sampler.new unfinished.new words.new }
 {
     let unread = feed_unread(sampler, unfinished.len());
-    if unread != 0 {
-        return unread;
+    if unread.is_err() {
+        return refusal_of(&unread);
     }
     let taken = feed_lent(
         read_head(sampler),
@@ -80,8 +85,8 @@ pub extern "C" fn jimrawel_feed(
         board,
         piece,
     );
-    write_taken(taken, board, sampler);
-    taken.refusal
+    write_taken(&taken, board, sampler);
+    refusal_of(&taken)
 }
 
 // carry_over: writes the sampler that goes on from one of the earlier rule. Refusals 25, 27, 4.
@@ -95,12 +100,13 @@ pub extern "C" fn jimrawel_carry_over(
     ensures { CarryCall earlier.now words.old sampler.old unfinished.old result words.new sampler.new unfinished.new }
 {
     let unread = carry_unread(earlier, sampler.len(), unfinished.len());
-    if unread != 0 {
-        return unread;
+    if unread.is_err() {
+        return refusal_of(&unread);
     }
     let carried = carry_over(read_earlier(earlier), words);
-    write_sampler(carried.sampler, sampler, unfinished);
-    carried.refusal
+    let refusal = refusal_of(&carried);
+    write_sampler(carried.unwrap_or(no_sampler()), sampler, unfinished);
+    refusal
 }
 
 // n: the blocks that the sampler has completed; 0 where the slice holds none.
@@ -108,7 +114,7 @@ pub extern "C" fn jimrawel_carry_over(
 pub extern "C" fn jimrawel_blocks(sampler: &[u64]) -> usize
     ensures { result ≡ blocks_call sampler.now }
 {
-    if sampler_unread(sampler) != 0 {
+    if sampler_unread(sampler).is_err() {
         return 0;
     }
     blocks(read_head(sampler))
@@ -130,12 +136,13 @@ pub extern "C" fn jimrawel_bottomup(
     ensures { BottomupCall sampler.now words.now first end k store.old bins.old order.old finding.old result store.new bins.new order.new finding.new }
 {
     let unread = search_unread(sampler, finding.len());
-    if unread != 0 {
-        return unread;
+    if unread.is_err() {
+        return refusal_of(&unread);
     }
     let searched = bottomup(read_head(sampler), words, first, end, k, store, bins, order);
-    write_finding(searched.finding, finding);
-    searched.refusal
+    let refusal = refusal_of(&searched);
+    write_finding(searched.unwrap_or(no_finding()), finding);
+    refusal
 }
 
 // How many entries a store must have for the search to be made by layers; 0 where no store makes it so.
@@ -152,8 +159,9 @@ pub extern "C" fn jimrawel_compute_index(block_size: usize, bits: &[u32], rank: 
     ensures { (result ≡ (ranked_of block_size (length bits.now) bits.now).refusal) × (rank.new ≡ (ranked_of block_size (length bits.now) bits.now).rank) }
 {
     let ranked = rank_of(block_size, bits);
-    *rank = ranked.rank;
-    ranked.refusal
+    let refusal = refusal_of(&ranked);
+    *rank = ranked.unwrap_or(0);
+    refusal
 }
 
 // Ranks one subset by the counts of its 2 ^ k bins: its bin order, and its division and z as two numbers. Refusals 25, 2, 7, 26.
@@ -166,9 +174,9 @@ pub extern "C" fn jimrawel_from_bins(
 ) -> u32
     ensures { RankingCall k bins.now order.old ranking.old result order.new ranking.new }
 {
-    let refusal = ranking_refusal(k, bins, order.len(), ranking.len());
-    if refusal != 0 {
-        return refusal;
+    let unranked = ranking_refusal(k, bins, order.len(), ranking.len());
+    if unranked.is_err() {
+        return refusal_of(&unranked);
     }
     let none: [f64; 0] = [];
     let n = total_of(bins, bin_count(k));
@@ -184,10 +192,10 @@ pub extern "C" fn jimrawel_validate(finding: &[u64], order: &[u32], scratch: &mu
     ensures { CheckCall finding.now order.now scratch.old result scratch.new }
 {
     let unread = finding_unread(finding);
-    if unread != 0 {
-        return unread;
+    if unread.is_err() {
+        return refusal_of(&unread);
     }
-    validate_lent(finding, order, scratch)
+    refusal_of(&validate_lent(finding, order, scratch))
 }
 
 // A finding on data. Refusals 25, 27, 1, 2, 9, 10, 11, 12, 7, 13, 14.
@@ -202,12 +210,17 @@ pub extern "C" fn jimrawel_evaluate_histogram(
     ensures { EvaluateCall finding.now order.now bytes.now scratch.old evaluated.old result scratch.new evaluated.new }
 {
     let unread = evaluation_unread(finding, evaluated.len());
-    if unread != 0 {
-        return unread;
+    if unread.is_err() {
+        return refusal_of(&unread);
     }
     let answer = evaluate_lent(finding, order, bytes, scratch);
-    write_evaluated(answer, evaluated);
-    answer.refusal
+    let refusal = refusal_of(&answer);
+    let none = Evaluated {
+        positive: 0,
+        score: Score::NoSample,
+    };
+    write_evaluated(answer.unwrap_or(none), evaluated);
+    refusal
 }
 
 // Writes a finding and its bin order as text. Refusals 25, 27, 1, 2, 9, 10, 11, 7, 13, 14, 17.
@@ -222,12 +235,13 @@ pub extern "C" fn jimrawel_write_finding(
     ensures { WriteCall finding.now order.now scratch.old out.old length.old result scratch.new out.new length.new }
 {
     let unread = finding_unread(finding);
-    if unread != 0 {
-        return unread;
+    if unread.is_err() {
+        return refusal_of(&unread);
     }
     let written = write_lent(finding, order, scratch, out);
-    *length = written.length;
-    written.refusal
+    let refusal = refusal_of(&written);
+    *length = written.unwrap_or(0);
+    refusal
 }
 
 // Reads a finding and its bin order from a text. Refusals 25, 16, 17, 1, 2, 9, 10, 11, 7, 13, 14.
@@ -241,11 +255,12 @@ pub extern "C" fn jimrawel_read_finding(
     ensures { ReadCall text.now order.old scratch.old finding.old result order.new scratch.new finding.new }
 {
     if finding.len() < 25 {
-        return 25;
+        return Refusal::Numbers as u32;
     }
     let reading = read_finding(text, order, scratch);
-    write_finding(reading.finding, finding);
-    reading.refusal
+    let refusal = refusal_of(&reading);
+    write_finding(reading.unwrap_or(no_finding()), finding);
+    refusal
 }
 
 // The most bytes that a text of a finding of k bits has.
@@ -267,13 +282,13 @@ pub extern "C" fn jimrawel_whole_blocks(
     ensures { SplitCall raw.now block_size training lengths.old result lengths.new }
 {
     if lengths.len() < 2 {
-        return 25;
+        return Refusal::Numbers as u32;
     }
     let first = first_part(raw, block_size, training);
     let second = second_part(raw, block_size, training);
     lengths[0] = first.len() as u64;
     lengths[1] = second.len() as u64;
-    split_refusal(raw, block_size)
+    refusal_of(&split_refusal(raw, block_size))
 }
 
 // The plan of a sweep. Refusals 25, 1.
@@ -286,11 +301,12 @@ pub extern "C" fn jimrawel_configurations(
     ensures { PlanCall block_size data_size plan.old result plan.new }
 {
     if plan.len() < 15 {
-        return 25;
+        return Refusal::Numbers as u32;
     }
     let planned = configurations(block_size, data_size);
-    write_plan(planned, plan);
-    planned.refusal
+    let refusal = refusal_of(&planned);
+    write_plan(planned.unwrap_or(no_plan()), plan);
+    refusal
 }
 
 // Both ends of the chance of at least c positives among n blocks, each positive with probability d / 2 ^ k, times 2 ^ 40. Refusals 19, 2, 14, 7.
@@ -307,9 +323,11 @@ pub extern "C" fn jimrawel_bracket(
     ensures { BracketCall n c k d scratch.old result scratch.new low.new high.new }
 {
     let bracketed = bracket(n, c, k, d, scratch);
-    *low = bracketed.low;
-    *high = bracketed.high;
-    bracketed.refusal
+    let refusal = refusal_of(&bracketed);
+    let ends = bracketed.unwrap_or(Ends { low: 0, high: 0 });
+    *low = ends.low;
+    *high = ends.high;
+    refusal
 }
 
 // The sweep: pair after pair of the plan for the recording, at the level in units of 2 ^ -40, its 60 numbers written. Refusals 25, 20, 1, then 5 and 7 pair by
@@ -331,11 +349,12 @@ pub extern "C" fn jimrawel_sweep(
     ensures { SweepCall raw.now block_size low_first level words.old store.old bins.old order.old scratch.old entries.old swept.old result words.new store.new bins.new order.new scratch.new entries.new swept.new }
 {
     if swept.len() < 60 {
-        return 25;
+        return Refusal::Numbers as u32;
     }
     let answer = sweep(
         raw, block_size, low_first, level, words, store, bins, order, scratch, entries,
     );
-    write_swept(answer, swept);
-    answer.refusal
+    let refusal = refusal_of(&answer);
+    write_swept(answer.unwrap_or(no_sweep()), swept);
+    refusal
 }

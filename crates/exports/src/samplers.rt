@@ -1,75 +1,55 @@
 // Samplers that a host lends: 8 numbers in one slice and 2,048 bytes in another; and 4 numbers of a sampler of the earlier rule.
 ghost use Rattle.std.specs.Prelude.{◌≡◌, ◌≤◌, ◌<◌, length};
-ghost use Rattle.sampling.specs.Feeding.{next_head};
+ghost use Rattle.counting.specs.Refusal.{refusal_of};
+ghost use Rattle.sampling.specs.Feeding.{as_taken, next_head};
 ghost use Rattle.exports.specs.Records.{written};
 ghost use Rattle.exports.specs.Samplers.{sampler_numbers, head_of, earlier_of, SamplerWritten, sampler_room, sampler_unread, feed_unread, search_unread, carry_unread};
 
-use crate::records::{order_number, write_sizes};
+use crate::records::{enough, order_number, order_unread, write_sizes};
+use counting::refusal::Refusal;
 use sampling::carrying::Earlier;
 use sampling::feeding::{Taken, write_bytes};
 use sampling::sampler::{Head, Sampler};
 
-// 25, or 0 where a sampler can be written to slices of so many numbers and bytes.
-pub fn sampler_room(numbers: usize, bytes: usize) -> u32
-    ensures { result ≡ sampler_room numbers bytes }
+// Numbers where a sampler cannot be written to slices of so many numbers and bytes.
+pub fn sampler_room(numbers: usize, bytes: usize) -> Result<(), Refusal>
+    ensures { refusal_of result ≡ sampler_room numbers bytes }
 {
-    if numbers < 8 {
-        return 25;
-    }
-    if bytes < 2048 {
-        return 25;
-    }
-    0
+    enough(numbers, 8)?;
+    enough(bytes, 2048)
 }
 
-// 25, 27, or 0 where a sampler's numbers can be read from the slice.
-pub fn sampler_unread(numbers: &[u64]) -> u32
-    ensures { result ≡ sampler_unread numbers.now }
+// Numbers or BitOrder where a sampler's numbers cannot be read from the slice.
+pub fn sampler_unread(numbers: &[u64]) -> Result<(), Refusal>
+    ensures { refusal_of result ≡ sampler_unread numbers.now }
 {
-    if numbers.len() < 8 {
-        return 25;
-    }
-    let other = numbers[3] > 1;
-    if other {
-        return 27;
-    }
-    0
+    enough(numbers.len(), 8)?;
+    order_unread(numbers[3])
 }
 
-// 25, 27, or 0 where they can and its unfinished bytes are in a slice of so many.
-pub fn feed_unread(numbers: &[u64], bytes: usize) -> u32
-    ensures { result ≡ feed_unread numbers.now bytes }
+// The same, or Numbers where its unfinished bytes are not in a slice of so many.
+pub fn feed_unread(numbers: &[u64], bytes: usize) -> Result<(), Refusal>
+    ensures { refusal_of result ≡ feed_unread numbers.now bytes }
 {
-    if bytes < 2048 {
-        return 25;
-    }
+    enough(bytes, 2048)?;
     sampler_unread(numbers)
 }
 
-// 25, 27, or 0 where they can and a finding be written to a slice of `room` numbers.
-pub fn search_unread(numbers: &[u64], room: usize) -> u32
-    ensures { result ≡ search_unread numbers.now room }
+// The same, or Numbers where a finding cannot be written to a slice of `room` numbers.
+pub fn search_unread(numbers: &[u64], room: usize) -> Result<(), Refusal>
+    ensures { refusal_of result ≡ search_unread numbers.now room }
 {
-    if room < 25 {
-        return 25;
-    }
+    enough(room, 25)?;
     sampler_unread(numbers)
 }
 
-// 25, 27, or 0 where a sampler of the earlier rule can be read, and today's written to slices of so many numbers and bytes.
-pub fn carry_unread(earlier: &[u64], numbers: usize, bytes: usize) -> u32
-    ensures { result ≡ carry_unread earlier.now numbers bytes }
+// Numbers or BitOrder where a sampler of the earlier rule cannot be read, or today's not be written to slices of so many numbers and bytes.
+pub fn carry_unread(earlier: &[u64], numbers: usize, bytes: usize) -> Result<(), Refusal>
+    ensures { refusal_of result ≡ carry_unread earlier.now numbers bytes }
 {
-    if earlier.len() < 4 {
-        return 25;
-    }
-    if sampler_room(numbers, bytes) != 0 {
-        return 25;
-    }
-    if earlier[3] > 1 {
-        return 27;
-    }
-    0
+    enough(earlier.len(), 4)?;
+    sampler_room(numbers, bytes)?;
+    order_unread(earlier[3])
 }
 
 // The sampler whose numbers stand first in the slice.
@@ -115,16 +95,15 @@ pub fn write_sampler(sampler: Sampler, numbers: &mut [u64], bytes: &mut [u8])
 }
 
 // Puts in what a feed to the board has changed: n, and how many unfinished bytes the board has. The other numbers stand there as they were read.
-pub fn write_taken(taken: Taken, board: usize, numbers: &mut [u64])
+pub fn write_taken(taken: &Result<Taken, Refusal>, board: usize, numbers: &mut [u64])
     requires numbers_value { sampler_unread numbers.old ≡ 0 }
-    requires board_bound { taken.refusal ≡ 0 → board < 4 }
-    ensures { numbers.new ≡ written (sampler_numbers (next_head (head_of numbers.old) board taken)) numbers.old }
+    requires board_bound { refusal_of taken.now ≡ 0 → board < 4 }
+    ensures { numbers.new ≡ written (sampler_numbers (next_head (head_of numbers.old) board (as_taken taken.now))) numbers.old }
 {
-    if taken.refusal != 0 {
-        return;
+    if let Ok(taken) = taken {
+        numbers[2] = taken.blocks as u64;
+        numbers[4 + board] = taken.left as u64;
     }
-    numbers[2] = taken.blocks as u64;
-    numbers[4 + board] = taken.left as u64;
 }
 
 // Puts the sampler's numbers first.

@@ -1,24 +1,25 @@
 -- `findings::validate_lent` meets its contract: what the bits are refused for comes first, and a division that 32 bits do not hold is refused alike.
 use mathlib.Core.Path.{◌≡◌, sym, ap, ◌∙◌}
 use lib.ListN.{length}
+use Rattle.counting.specs.Refusal.{refusal_of}
+use Rattle.counting.proofs.Reasons.{some_number}
+use Rattle.sampling.proofs.Refused.{passed_on}
 use Rattle.searching.specs.declared.finding.Finding.{Finding}
 use Rattle.judging.specs.Check.{check_refusal, checked_scratch}
 use Rattle.exports.specs.Records.{finding_read}
 use Rattle.exports.specs.Findings.{subset_refusal}
 use Rattle.exports.proofs.Lending.{readable, width_read, check_refused, check_alike, cleared_alike}
-use Rattle.exports.proofs.findings.validate_lent.Goals.{Else-refusal-ne0}
+use Rattle.exports.proofs.findings.validate_lent.Goals.{In_ok-subset_refusal}
 use Rattle.exports.proofs.findings.validate_lent.Goals as goal
 
-none : (e : Else-refusal-ne0) → subset_refusal (finding_read e.args.numbers.now) ≡ 0
-none e = sym e.subset_refusal-refusal.ensures ∙ e.if-refusal-ne0.false
+none : (e : In_ok-subset_refusal) → subset_refusal (finding_read e.args.numbers.now) ≡ 0
+none e = sym e.in_ok-subset_refusal.ensures
 
-pub returns-then-refusal-ne0 : goal.returns-then-refusal-ne0
-returns-then-refusal-ne0 c =
-    let whole = (let a = c.args in
-    check_refused (finding_read a.numbers.now) c.subset_refusal-refusal.result c.subset_refusal-refusal.ensures c.if-refusal-ne0.true a.order.now a.scratch.now) in record {
-      value = whole.0;
-      scratch_after = whole.1;
-    }
+pub returns-in_err-subset_refusal : goal.returns-in_err-subset_refusal
+returns-in_err-subset_refusal c =
+    let a = c.args in
+    let whole = check_refused (finding_read a.numbers.now) _ c.in_err-subset_refusal.ensures (some_number _) a.order.now a.scratch.now in
+    record { value = ap refusal_of (passed_on _ _ c.from_residual.ensures.1) ∙ whole.0; scratch_after = whole.1 }
 
 pub read_finding-requires : goal.read_finding-requires
 read_finding-requires c = readable c.args.numbers.now c.requires (none c)
@@ -27,7 +28,7 @@ pub returns : goal.returns
 returns c =
     let a = c.args in
     let f = finding_read a.numbers.now in
-    let w = width_read f (none (goal.at.returns c).Else-refusal-ne0) in
+    let w = width_read f (none (goal.at.returns c).In_ok-subset_refusal) in
     let is = c.read_finding.ensures in record {
       value = c.validate.ensures.value ∙ ap (λ (g : Finding). check_refusal g a.order.now (length a.scratch.now)) is
           ∙ check_alike f w a.order.now (length a.scratch.now);

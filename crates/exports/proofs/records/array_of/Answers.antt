@@ -1,27 +1,21 @@
--- `records::array_of` meets its contract. The loop's invariant: the first i bits are copied, and the rest is as it was.
-use mathlib.Core.Path.{◌≡◌, refl, ap, ◌∙◌}
+-- `records::array_of` meets its contract.
+use mathlib.Core.Path.{◌≡◌, sym, ap}
 use mathlib.Core.List.{List, ◌++◌}
-use Prim.Native.Nat.{ℕ, ◌<◌}
-use native.Mathlib.Omega.{arith}
-use lib.ListN.{length, take, drop, replicate, set, get_or}
-use lib.Seq.{take-length}
-use Rattle.exports.proofs.Writing.{copy_first}
+use Prim.Native.Nat.{ℕ}
+use lib.ListN.{length, take, drop, replicate}
+use lib.Seq.{length-take-le}
+use Rattle.exports.proofs.records.array_of.Goals.{Start}
 use Rattle.exports.proofs.records.array_of.Goals as goal
 
-pub loop-i-init : goal.loop-i-init
-loop-i-init c = (omega arith, refl)
+-- there is room for the bits
+room : (s : Start) → length s.args.bits.now ≡ length (take (length s.args.bits.now) (replicate {A = ℕ} 20 0))
+room s = sym (length-take-le (length s.args.bits.now) (replicate {A = ℕ} 20 0) s.requires)
 
-pub loop-i-preserved : goal.loop-i-preserved
-loop-i-preserved c =
-    let bits = c.args.bits.now in
-    let i = c.loop-i.i in
-    let room : i < length {A = ℕ} (replicate 20 0) = omega (arith, c.requires) in
-    (omega arith, ap (λ (t : List ℕ). set t i (get_or bits i 0)) c.loop-i.invariant.1 ∙ copy_first bits (replicate 20 0) i (omega arith) room)
+pub slice_bounds-copy_from_slice-end : goal.slice_bounds-copy_from_slice-end
+slice_bounds-copy_from_slice-end c = room (goal.at.slice_bounds-copy_from_slice-end c).Start
+
+pub copy_from_slice-requires : goal.copy_from_slice-requires
+copy_from_slice-requires c = sym (room (goal.at.copy_from_slice-requires c).Start)
 
 pub returns : goal.returns
-returns c =
-    let bits = c.args.bits.now in
-    let e : c.loop-i.i ≡ length bits = omega arith in
-    c.loop-i.invariant.1
-    ∙ ap (λ (i : ℕ). take i bits ++ drop i (replicate 20 0)) e
-    ∙ ap (λ (t : List ℕ). t ++ drop (length bits) (replicate 20 0)) (take-length bits)
+returns c = ap (λ (t : List ℕ). t ++ drop (length c.args.bits.now) (replicate 20 0)) c.copy_from_slice.ensures.after

@@ -1,12 +1,17 @@
 -- `records::evaluation_unread` meets its contract: the room first, then the record.
-use borrow.Author.Tests.{le-leb, lt-leb}
+use mathlib.Core.Path.{ap, ◌∙◌}
+use Rattle.counting.specs.Refusal.{refusal_of}
+use Rattle.sampling.proofs.Refused.{passed_on}
 use Rattle.exports.specs.Records.{evaluation_unread}
+use Rattle.exports.proofs.Asking.{is_enough, is_short}
 use Rattle.exports.proofs.records.evaluation_unread.Goals as goal
 
-pub returns-then-room-lt3 : goal.returns-then-room-lt3
+pub returns-in_err-enough : goal.returns-in_err-enough
 unfolding evaluation_unread
-returns-then-room-lt3 c = simp (lt-leb _ _ c.if-room-lt3.true)
+returns-in_err-enough c =
+    let s = is_short _ _ _ c.in_err-enough.ensures in
+    ap refusal_of (passed_on _ _ c.from_residual.ensures.1) ∙ simp s.0 s.1
 
 pub returns : goal.returns
 unfolding evaluation_unread
-returns c = simp (le-leb _ _ c.if-room-lt3.false) c.finding_unread.ensures
+returns c = simp (is_enough _ _ c.in_ok-enough.ensures) c.finding_unread.ensures

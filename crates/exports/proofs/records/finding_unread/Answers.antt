@@ -1,16 +1,22 @@
--- `records::finding_unread` meets its contract: each return rewrites with the tests that led there.
-use borrow.Author.Tests.{le-leb, lt-leb}
+-- `records::finding_unread` meets its contract: the length first, then the bit order.
+use mathlib.Core.Path.{ap, ◌∙◌}
+use native.Mathlib.Omega.{arith}
+use borrow.Author.Tests.{leb-true}
+use Rattle.counting.specs.Refusal.{refusal_of}
+use Rattle.sampling.proofs.Refused.{passed_on}
 use Rattle.exports.specs.Records.{finding_unread}
+use Rattle.exports.proofs.Asking.{is_enough, is_short}
 use Rattle.exports.proofs.records.finding_unread.Goals as goal
 
-pub returns-then-numbers-lt25 : goal.returns-then-numbers-lt25
+pub returns-in_err-enough : goal.returns-in_err-enough
 unfolding finding_unread
-returns-then-numbers-lt25 c = simp (lt-leb _ _ c.if-numbers-lt25.true)
+returns-in_err-enough c =
+    let s = is_short _ _ _ c.in_err-enough.ensures in
+    ap refusal_of (passed_on _ _ c.from_residual.ensures.1) ∙ simp s.0 s.1
 
-pub returns-then-numbers-gt1 : goal.returns-then-numbers-gt1
-unfolding finding_unread
-returns-then-numbers-gt1 c = simp (le-leb _ _ c.if-numbers-lt25.false, lt-leb _ _ c.if-numbers-gt1.true)
+pub bounds-numbers-24 : goal.bounds-numbers-24
+bounds-numbers-24 c = omega (arith, leb-true _ _ (is_enough _ _ c.in_ok-enough.ensures))
 
 pub returns : goal.returns
 unfolding finding_unread
-returns c = simp (le-leb _ _ c.if-numbers-lt25.false, le-leb _ _ c.if-numbers-gt1.false)
+returns c = simp (is_enough _ _ c.in_ok-enough.ensures) c.order_unread.ensures

@@ -14,7 +14,7 @@ loop-i-init c =
     (omega arith, refl, sym (ap (λ (t : List ℕ). t ++ drop 4 l) (append-nil (take 4 l)) ∙ take-append-drop 4 l))
 
 pub overflow_cast-numbers : goal.overflow_cast-numbers
-overflow_cast-numbers c = omega (arith, c.shared_slice_known-1.given c.loop-i.i)
+overflow_cast-numbers c = omega (arith, c.type_inv.bits c.loop-i.i)
 
 pub bounds-numbers-i : goal.bounds-numbers-i
 bounds-numbers-i c = omega (arith, c.requires, c.loop-i.invariant.1)

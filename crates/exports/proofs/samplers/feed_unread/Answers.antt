@@ -1,12 +1,17 @@
 -- `samplers::feed_unread` meets its contract: the bytes first, then the record.
-use borrow.Author.Tests.{le-leb, lt-leb}
+use mathlib.Core.Path.{ap, ◌∙◌}
+use Rattle.counting.specs.Refusal.{refusal_of}
+use Rattle.sampling.proofs.Refused.{passed_on}
 use Rattle.exports.specs.Samplers.{feed_unread}
+use Rattle.exports.proofs.Asking.{is_enough, is_short}
 use Rattle.exports.proofs.samplers.feed_unread.Goals as goal
 
-pub returns-then-bytes-lt2048 : goal.returns-then-bytes-lt2048
+pub returns-in_err-enough : goal.returns-in_err-enough
 unfolding feed_unread
-returns-then-bytes-lt2048 c = simp (lt-leb _ _ c.if-bytes-lt2048.true)
+returns-in_err-enough c =
+    let s = is_short _ _ _ c.in_err-enough.ensures in
+    ap refusal_of (passed_on _ _ c.from_residual.ensures.1) ∙ simp s.0 s.1
 
 pub returns : goal.returns
 unfolding feed_unread
-returns c = simp (le-leb _ _ c.if-bytes-lt2048.false) c.sampler_unread.ensures
+returns c = simp (is_enough _ _ c.in_ok-enough.ensures) c.sampler_unread.ensures

@@ -1,16 +1,17 @@
--- `samplers::sampler_room` meets its contract: each return rewrites with the tests that led there.
-use borrow.Author.Tests.{le-leb, lt-leb}
+-- `samplers::sampler_room` meets its contract: the numbers first, then the bytes.
+use mathlib.Core.Path.{ap, ◌∙◌}
+use Rattle.counting.specs.Refusal.{refusal_of}
+use Rattle.sampling.proofs.Refused.{passed_on}
 use Rattle.exports.specs.Samplers.{sampler_room}
+use Rattle.exports.proofs.Asking.{is_enough, is_short}
 use Rattle.exports.proofs.samplers.sampler_room.Goals as goal
 
-pub returns-then-numbers-lt8 : goal.returns-then-numbers-lt8
+pub returns-in_err-enough : goal.returns-in_err-enough
 unfolding sampler_room
-returns-then-numbers-lt8 c = simp (lt-leb _ _ c.if-numbers-lt8.true)
-
-pub returns-then-bytes-lt2048 : goal.returns-then-bytes-lt2048
-unfolding sampler_room
-returns-then-bytes-lt2048 c = simp (le-leb _ _ c.if-numbers-lt8.false, lt-leb _ _ c.if-bytes-lt2048.true)
+returns-in_err-enough c =
+    let s = is_short _ _ _ c.in_err-enough.ensures in
+    ap refusal_of (passed_on _ _ c.from_residual.ensures.1) ∙ simp s.0 s.1
 
 pub returns : goal.returns
 unfolding sampler_room
-returns c = simp (le-leb _ _ c.if-numbers-lt8.false, le-leb _ _ c.if-bytes-lt2048.false)
+returns c = simp (is_enough _ _ c.in_ok-enough.ensures) c.enough-2.ensures
