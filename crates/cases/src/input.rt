@@ -1,6 +1,7 @@
 // Standard input, and room for much of it.
-ghost use Rattle.std.specs.Prelude.{◌≡◌, ◌≤◌, length, IfOk};
+ghost use Rattle.std.specs.Prelude.{◌≡◌, ◌<◌, ◌≤◌, length, IfOk};
 
+use crate::reading::Reader;
 use counting::buffer::filled;
 use std::io;
 use std::io::{Read, Stdin};
@@ -20,6 +21,19 @@ pub fn read_full(stdin: Stdin, space: &mut [u8]) -> io::Result<usize>
         done += read;
     }
     Ok(done)
+}
+
+// Reads up to N bytes of standard input, and has them answered.
+pub fn answer_input<const N: usize, F: FnOnce(&mut Reader) -> io::Result<()>>(
+    stdin: Stdin,
+    answer: F,
+) -> io::Result<()>
+    requires room { N < 9223372036854775808 }
+    requires callable { F.IsAlwaysCallable answer }
+{
+    let mut space = filled::<u8, N>(0);
+    let length = read_full(stdin, &mut space)?;
+    answer(&mut Reader::new(&space[..length]))
 }
 
 // 65,536 zeros, for the bytes of a recording.

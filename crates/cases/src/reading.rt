@@ -2,6 +2,8 @@
 ghost use Rattle.std.specs.Prelude.{◌≡◌, ◌<◌, ◌≤◌, length};
 ghost use Rattle.cases.specs.Reading.{Onward};
 
+use std::io;
+
 // A text, and the place that has been read up to.
 #[derive(Drop)]
 pub struct Reader<'a> {
@@ -72,6 +74,29 @@ impl<'a> Reader<'a> {
         for entry in to.iter_mut() {
             *entry = T::try_from(self.number()).unwrap_or(largest);
         }
+    }
+
+    // The next 20 numbers, as a finding's bits.
+    pub fn bits(&mut self) -> [u32; 20]
+        ensures on { Onward self.old.text.now self.old.at self.new.at }
+        ensures same_text { self.new.text ≡ self.old.text }
+    {
+        let mut bits = [0; 20];
+        self.fill(&mut bits, u32::MAX);
+        bits
+    }
+
+    // Reads the number of cases, then answers each, up to the first whose answer fails.
+    pub fn each<F: FnMut(&mut Reader<'a>) -> io::Result<()>>(
+        &mut self,
+        mut answer: F,
+    ) -> io::Result<()>
+        requires { F.IsAlwaysCallable answer }
+    {
+        for _ in 0..self.number() {
+            answer(self)?;
+        }
+        Ok(())
     }
 }
 

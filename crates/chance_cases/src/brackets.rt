@@ -9,10 +9,7 @@ use std::io::Stdout;
 
 // The number of cases, then the cases.
 pub fn replay(stdout: Stdout, reader: &mut Reader) -> io::Result<()> {
-    for _ in 0..reader.number() {
-        replay_one(stdout, reader)?;
-    }
-    Ok(())
+    reader.each(|reader| replay_one(stdout, reader))
 }
 
 fn replay_one(stdout: Stdout, reader: &mut Reader) -> io::Result<()> {

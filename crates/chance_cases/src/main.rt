@@ -3,14 +3,9 @@
 
 mod brackets;
 
-use cases::input::read_full;
-use cases::reading::Reader;
-use counting::buffer::filled;
+use cases::input::answer_input;
 use std::io;
 
 fn main(rt: HostRuntime) -> io::Result<()> {
-    let mut space = filled::<u8, 65536>(0);
-    let length = read_full(rt.stdin(), &mut space)?;
-    let mut reader = Reader::new(&space[..length]);
-    brackets::replay(rt.stdout(), &mut reader)
+    answer_input::<65536, _>(rt.stdin(), |reader| brackets::replay(rt.stdout(), reader))
 }

@@ -33,7 +33,7 @@ pub fn within(stretch: Stretch) -> bool
 {
     stretch.first <= stretch.end
         && stretch.end <= 16777216
-        && (stretch.end + 63) / 64 <= stretch.stride
+        && stretch.end.div_ceil(64) <= stretch.stride
 }
 
 // Whether the bits can be counted: there are 1 to 10, for whose bins there is room, and there can be a bit past the last.

@@ -22,10 +22,7 @@ use std::io::Stdout;
 
 // The number of cases, then the cases.
 pub fn replay(stdout: Stdout, reader: &mut Reader) -> io::Result<()> {
-    for _ in 0..reader.number() {
-        replay_one(stdout, reader)?;
-    }
-    Ok(())
+    reader.each(|reader| replay_one(stdout, reader))
 }
 
 fn replay_one(stdout: Stdout, reader: &mut Reader) -> io::Result<()> {
@@ -46,21 +43,14 @@ fn replay_one(stdout: Stdout, reader: &mut Reader) -> io::Result<()> {
         let from = b.saturating_mul(stride).min(words.len());
         print_row(stdout, &words[from..], n)?;
     }
-    for _ in 0..reader.number() {
-        count_one(stdout, reader, words, block_size, stride)?;
-    }
-    Ok(())
+    reader.each(|reader| count_one(stdout, reader, words, block_size, stride))
 }
 
 // The words that hold n blocks.
 fn print_row(stdout: Stdout, words: &[u64], n: usize) -> io::Result<()> {
-    let mut left = n;
-    for word in words {
-        if left == 0 {
-            break;
-        }
-        print(stdout, lowest(*word, left))?;
-        left = left.saturating_sub(64);
+    let shown = n.min(words.len().saturating_mul(64));
+    for start in (0..shown).step_by(64) {
+        print(stdout, lowest(words[start / 64], n - start))?;
     }
     end_line(stdout)
 }

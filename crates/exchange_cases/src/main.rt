@@ -4,16 +4,13 @@
 mod readings;
 mod writings;
 
-use cases::input::read_full;
-use cases::reading::Reader;
-use counting::buffer::filled;
+use cases::input::answer_input;
 use std::io;
 
 // The readings, the writings.
 fn main(rt: HostRuntime) -> io::Result<()> {
-    let mut space = filled::<u8, 524288>(0);
-    let length = read_full(rt.stdin(), &mut space)?;
-    let mut reader = Reader::new(&space[..length]);
-    readings::replay(rt.stdout(), &mut reader)?;
-    writings::replay(rt.stdout(), &mut reader)
+    answer_input::<524288, _>(rt.stdin(), |reader| {
+        readings::replay(rt.stdout(), reader)?;
+        writings::replay(rt.stdout(), reader)
+    })
 }

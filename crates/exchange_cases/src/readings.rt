@@ -13,10 +13,7 @@ use std::io::Stdout;
 
 // The number of cases, then the cases.
 pub fn replay(stdout: Stdout, reader: &mut Reader) -> io::Result<()> {
-    for _ in 0..reader.number() {
-        replay_one(stdout, reader)?;
-    }
-    Ok(())
+    reader.each(|reader| replay_one(stdout, reader))
 }
 
 // Every entry of the order and of the scratch is 99 before.

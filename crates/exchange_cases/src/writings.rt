@@ -13,10 +13,7 @@ use std::io::Stdout;
 
 // The number of cases, then the cases.
 pub fn replay(stdout: Stdout, reader: &mut Reader) -> io::Result<()> {
-    for _ in 0..reader.number() {
-        replay_one(stdout, reader)?;
-    }
-    Ok(())
+    reader.each(|reader| replay_one(stdout, reader))
 }
 
 // Every entry of the scratch and of the output is 99 before.
@@ -46,15 +43,9 @@ fn read_given(reader: &mut Reader) -> Finding {
     Finding {
         block_size: reader.size(),
         width: reader.size(),
-        bits: read_bits(reader),
+        bits: reader.bits(),
         division: reader.at_most(4294967295) as u32,
         z: double(reader.number()),
         low_first: reader.number() != 0,
     }
-}
-
-fn read_bits(reader: &mut Reader) -> [u32; 20] {
-    let mut bits = [0u32; 20];
-    reader.fill(&mut bits, u32::MAX);
-    bits
 }

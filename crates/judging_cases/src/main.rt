@@ -5,17 +5,14 @@ mod findings;
 mod plans;
 mod splits;
 
-use cases::input::read_full;
-use cases::reading::Reader;
-use counting::buffer::filled;
+use cases::input::answer_input;
 use std::io;
 
 // The splits, the plans, the findings.
 fn main(rt: HostRuntime) -> io::Result<()> {
-    let mut space = filled::<u8, 393216>(0);
-    let length = read_full(rt.stdin(), &mut space)?;
-    let mut reader = Reader::new(&space[..length]);
-    splits::replay(rt.stdout(), &mut reader)?;
-    plans::replay(rt.stdout(), &mut reader)?;
-    findings::replay(rt.stdout(), &mut reader)
+    answer_input::<393216, _>(rt.stdin(), |reader| {
+        splits::replay(rt.stdout(), reader)?;
+        plans::replay(rt.stdout(), reader)?;
+        findings::replay(rt.stdout(), reader)
+    })
 }

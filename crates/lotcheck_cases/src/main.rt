@@ -3,7 +3,7 @@
 #![tactic(auto)]
 
 use cases::entries::repeated;
-use cases::input::read_full;
+use cases::input::answer_input;
 use cases::printing::{end_line, print};
 use cases::reading::Reader;
 use counting::buffer::filled;
@@ -11,9 +11,7 @@ use std::io;
 use std::io::{Print, Stdout};
 
 fn main(rt: HostRuntime) -> io::Result<()> {
-    let mut space = filled::<u8, 262144>(0);
-    let length = read_full(rt.stdin(), &mut space)?;
-    replay(rt.stdout(), &mut Reader::new(&space[..length]))
+    answer_input::<262144, _>(rt.stdin(), |reader| replay(rt.stdout(), reader))
 }
 
 // The number of inputs, up to 1,000, then the inputs.

@@ -3,14 +3,12 @@
 
 mod replays;
 
-use cases::input::read_full;
-use cases::reading::Reader;
-use counting::buffer::filled;
+use cases::input::answer_input;
 use std::io;
 
 fn main(rt: HostRuntime) -> io::Result<()> {
-    let mut space = filled::<u8, 196608>(0);
-    let length = read_full(rt.stdin(), &mut space)?;
-    let mut reader = Reader::new(&space[..length]);
-    replays::answer_all(rt.stdout(), &mut reader)
+    answer_input::<196608, _>(
+        rt.stdin(),
+        |reader| replays::answer_all(rt.stdout(), reader),
+    )
 }

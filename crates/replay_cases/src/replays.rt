@@ -30,10 +30,7 @@ struct Case {
 
 // The number of cases, then the cases.
 pub fn answer_all(stdout: Stdout, reader: &mut Reader) -> io::Result<()> {
-    for _ in 0..reader.number() {
-        answer_one(stdout, reader)?;
-    }
-    Ok(())
+    reader.each(|reader| answer_one(stdout, reader))
 }
 
 fn answer_one(stdout: Stdout, reader: &mut Reader) -> io::Result<()> {

@@ -4,16 +4,13 @@
 mod roots;
 mod scores;
 
-use cases::input::read_full;
-use cases::reading::Reader;
-use counting::buffer::filled;
+use cases::input::answer_input;
 use std::io;
 
 // First the roots, then the scores.
 fn main(rt: HostRuntime) -> io::Result<()> {
-    let mut space = filled::<u8, 262144>(0);
-    let length = read_full(rt.stdin(), &mut space)?;
-    let mut reader = Reader::new(&space[..length]);
-    roots::replay(rt.stdout(), &mut reader)?;
-    scores::replay(rt.stdout(), &mut reader)
+    answer_input::<262144, _>(rt.stdin(), |reader| {
+        roots::replay(rt.stdout(), reader)?;
+        scores::replay(rt.stdout(), reader)
+    })
 }

@@ -8,9 +8,8 @@ use std::io::Stdout;
 
 // The number of cases, then the cases.
 pub fn replay(stdout: Stdout, reader: &mut Reader) -> io::Result<()> {
-    for _ in 0..reader.number() {
+    reader.each(|reader| {
         print_double(stdout, root(double(reader.number())))?;
-        end_line(stdout)?;
-    }
-    Ok(())
+        end_line(stdout)
+    })
 }

@@ -5,17 +5,14 @@ mod rankings;
 mod ranks;
 mod searches;
 
-use cases::input::read_full;
-use cases::reading::Reader;
-use counting::buffer::filled;
+use cases::input::answer_input;
 use std::io;
 
 // The ranks of subsets, the rankings of counts, the searches.
 fn main(rt: HostRuntime) -> io::Result<()> {
-    let mut space = filled::<u8, 655360>(0);
-    let length = read_full(rt.stdin(), &mut space)?;
-    let mut reader = Reader::new(&space[..length]);
-    ranks::replay(rt.stdout(), &mut reader)?;
-    rankings::replay(rt.stdout(), &mut reader)?;
-    searches::replay(rt.stdout(), &mut reader)
+    answer_input::<655360, _>(rt.stdin(), |reader| {
+        ranks::replay(rt.stdout(), reader)?;
+        rankings::replay(rt.stdout(), reader)?;
+        searches::replay(rt.stdout(), reader)
+    })
 }

@@ -8,18 +8,13 @@ use subsets::rank::compute_index;
 
 // The number of cases, then the cases.
 pub fn replay(stdout: Stdout, reader: &mut Reader) -> io::Result<()> {
-    for _ in 0..reader.number() {
-        replay_one(stdout, reader)?;
-    }
-    Ok(())
+    reader.each(|reader| replay_one(stdout, reader))
 }
 
 fn replay_one(stdout: Stdout, reader: &mut Reader) -> io::Result<()> {
-    let mut bits = [0u32; 20];
     let block_size = reader.size();
     let width = reader.size();
-    reader.fill(&mut bits, u32::MAX);
-    let ranked = compute_index(block_size, width, bits);
+    let ranked = compute_index(block_size, width, reader.bits());
     print(stdout, refusal_of(&ranked))?;
     print(stdout, ranked.unwrap_or(0))?;
     end_line(stdout)

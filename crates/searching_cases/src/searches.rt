@@ -34,10 +34,7 @@ struct Search {
 
 // The number of cases, then the cases.
 pub fn replay(stdout: Stdout, reader: &mut Reader) -> io::Result<()> {
-    for _ in 0..reader.number() {
-        replay_one(stdout, reader)?;
-    }
-    Ok(())
+    reader.each(|reader| replay_one(stdout, reader))
 }
 
 fn replay_one(stdout: Stdout, reader: &mut Reader) -> io::Result<()> {
@@ -47,12 +44,11 @@ fn replay_one(stdout: Stdout, reader: &mut Reader) -> io::Result<()> {
     let count = reader.at_most(words.len());
     let words = &mut words[..count];
     let recorded = record(stdout, reader, block_size, low_first, words)?;
-    for _ in 0..reader.number() {
+    reader.each(|reader| {
         let search = read_search(reader, recorded.sampler.head);
         lend(stdout, search, words, search.store)?;
-        lend(stdout, search, words, 0)?;
-    }
-    Ok(())
+        lend(stdout, search, words, 0)
+    })
 }
 
 fn read_search(reader: &mut Reader, returned: Head) -> Search {

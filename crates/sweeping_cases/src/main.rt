@@ -4,14 +4,9 @@
 mod recordings;
 mod sweeps;
 
-use cases::input::read_full;
-use cases::reading::Reader;
-use counting::buffer::filled;
+use cases::input::answer_input;
 use std::io;
 
 fn main(rt: HostRuntime) -> io::Result<()> {
-    let mut space = filled::<u8, 131072>(0);
-    let length = read_full(rt.stdin(), &mut space)?;
-    let mut reader = Reader::new(&space[..length]);
-    sweeps::answer_all(rt.stdout(), &mut reader)
+    answer_input::<131072, _>(rt.stdin(), |reader| sweeps::answer_all(rt.stdout(), reader))
 }

@@ -35,14 +35,15 @@ struct Case {
 
 // The number of cases, then the cases.
 pub fn answer_all(stdout: Stdout, reader: &mut Reader) -> io::Result<()> {
-    for _ in 0..reader.number() {
-        let mut raw = large_buffer();
-        let case = read_case(reader);
-        let raw = &mut raw[..case.length.min(65536)];
-        record(reader, raw);
-        answer(stdout, case, raw)?;
-    }
-    Ok(())
+    reader.each(|reader| answer_one(stdout, reader))
+}
+
+fn answer_one(stdout: Stdout, reader: &mut Reader) -> io::Result<()> {
+    let mut raw = large_buffer();
+    let case = read_case(reader);
+    let raw = &mut raw[..case.length.min(65536)];
+    record(reader, raw);
+    answer(stdout, case, raw)
 }
 
 fn read_case(reader: &mut Reader) -> Case {
