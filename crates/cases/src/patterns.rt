@@ -5,6 +5,7 @@ use std::io::Stdout;
 
 // The double of a pattern.
 pub fn double(pattern: u64) -> f64 {
+    // Kept: `is_nan` would have to come after `f64::from_bits`, which takes no NaN's pattern, so it is no plainer.
     if pattern % 9223372036854775808 > 9218868437227405312 {
         return f64::NAN;
     }

@@ -38,6 +38,7 @@ fn replay_one(stdout: Stdout, reader: &mut Reader) -> io::Result<()> {
     end_line(stdout)
 }
 
+// Kept: one for all programs would have the crate `cases`, and with it each program, stand on `searching`, which is no plainer.
 fn print_finding(stdout: Stdout, finding: Finding) -> io::Result<()> {
     print(stdout, finding.block_size)?;
     print(stdout, finding.width)?;

@@ -34,6 +34,7 @@ fn replay_one(stdout: Stdout, reader: &mut Reader) -> io::Result<()> {
     evaluate(stdout, finding, order, raw, lent)
 }
 
+// Kept: the exchange crate's cases read the bit order by another rule, any number but 0 for the low bit first; one function that is told the rule is no plainer.
 fn read_finding(reader: &mut Reader) -> Finding {
     Finding {
         block_size: reader.size(),

@@ -16,6 +16,7 @@ fn main(rt: HostRuntime) -> io::Result<()> {
 
 // The number of inputs, up to 1,000, then the inputs.
 fn replay(stdout: Stdout, reader: &mut Reader) -> io::Result<()> {
+    // Kept: `Reader::each` knows no limit, and with one as a parameter it is no plainer.
     for _ in 0..reader.at_most(1000) {
         replay_one(stdout, reader)?;
     }

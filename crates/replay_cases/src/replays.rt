@@ -101,6 +101,7 @@ fn answer(stdout: Stdout, case: Case, recording: &[u8], lengths: &[usize]) -> io
     end_line(stdout)
 }
 
+// Kept: one for the finding of all programs would have the crate `cases`, and with it each program, stand on `searching`, which is no plainer.
 fn print_replayed(stdout: Stdout, replayed: Replayed) -> io::Result<()> {
     let finding = replayed.finding;
     print(stdout, replayed.refused)?;

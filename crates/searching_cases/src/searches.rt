@@ -108,6 +108,7 @@ fn lend(stdout: Stdout, search: Search, words: &[u64], entries: usize) -> io::Re
 }
 
 // How many counts a search leaves in a store of so many entries: none where it is refused, or the store does not suffice.
+// Kept: the replay's cases have the answer to that as a flag; one function for both would only be the `if`, and is no plainer.
 fn kept_entries(found: bool, block_size: usize, k: usize, entries: usize) -> usize {
     let needed = store_needed(block_size, k);
     if !found || needed > entries {
@@ -133,6 +134,7 @@ fn print_answer(
     print(stdout, changed(order, shown))
 }
 
+// Kept: one for all programs would have the crate `cases`, and with it each program, stand on `searching`, which is no plainer.
 fn print_searched(stdout: Stdout, searched: Result<Finding, Refusal>) -> io::Result<()> {
     print(stdout, refusal_of(&searched))?;
     let finding = searched.unwrap_or(no_finding());

@@ -132,6 +132,7 @@ fn print_swept(stdout: Stdout, swept: Swept) -> io::Result<()> {
     print_tested(stdout, swept.last)
 }
 
+// Kept: one for the finding of all programs would have the crate `cases`, and with it each program, stand on `searching`, which is no plainer.
 fn print_tested(stdout: Stdout, tested: Tested) -> io::Result<()> {
     let finding = tested.finding;
     print(stdout, finding.block_size)?;
