@@ -1,18 +1,16 @@
 -- Counting block by block, and the sum of the first counts of an order.
 use mathlib.Core.Path.{◌≡◌, refl, sym, ap, ◌∙◌}
-use Prim.Native.Nat.{ℕ, suc, ◌+◌, ◌*◌, ◌/◌, ◌^◌, ◌≤◌, ◌<◌}
+use Prim.Native.Nat.{ℕ, suc, ◌+◌, ◌-◌, ◌*◌, ◌/◌, ◌^◌, ◌≤◌, ◌<◌}
 use native.Mathlib.Decide.{ℕ_discrete}
-use native.Mathlib.Nat.{zero-mul, le-div_iff_mul-le}
+use native.Mathlib.Nat.{div-mul-le_self, mul-le-mul_right}
 use native.Mathlib.Numerals.{add-one}
 use native.Mathlib.Omega.{arith}
 use mathlib.Core.Bool.{Bool}
-use mathlib.Core.List.{List, ◌++◌, map}
-use lib.ListN.{length, get_or, set, take, drop, replicate, length-set, length-append, length-drop, length-replicate, get_or-replicate, length-map}
-use lib.Seq.{ext_get_or, get_or-set_same, get_or-set_other, take-length, drop-length, drop-drop}
-use Rattle.std.proofs.lemmas.List.{take-append-le, drop-append-le}
-use Rattle.std.proofs.lemmas.Nat.{div-mul-add}
+use mathlib.Core.List.{List, map}
+use lib.ListN.{length, get_or, set, take, drop, replicate, length-set, length-take, length-drop, length-replicate, get_or-replicate, length-map}
+use lib.Seq.{ext_get_or, get_or-set_same, get_or-set_other, take-length}
 use Rattle.counting.specs.Block.{block_bit, bin_of}
-use Rattle.counting.specs.Recording.{block_bytes, blocks_in, recorded_bit}
+use Rattle.counting.specs.Recording.{block_bytes, recorded_bit}
 use Rattle.counting.specs.Sample.{count_in, counts_of, total}
 use Rattle.counting.proofs.Counts.{same_eq, same_ne, count_le, get_d_list}
 use Rattle.searching.proofs.Filled.{length_counts}
@@ -38,7 +36,7 @@ counts_none bit bits =
     long = length-replicate {A = ℕ} (2 ^ length bits) 0
 
 -- the block's bin has one more
-counts_more : (bit : ℕ → ℕ → ℕ) (n : ℕ) (bits bins : List ℕ) (v x : ℕ) → bins ≡ counts_of bit n bits → v ≡ bin_of (bit n) bits → v < 2 ^ length bits → x ≡ get_or bins v 0
+pub counts_more : (bit : ℕ → ℕ → ℕ) (n : ℕ) (bits bins : List ℕ) (v x : ℕ) → bins ≡ counts_of bit n bits → v ≡ bin_of (bit n) bits → v < 2 ^ length bits → x ≡ get_or bins v 0
     → set bins v (x + 1) ≡ counts_of bit (n + 1) bits
 unfolding count_in
 counts_more bit n bits bins v x is bin h reads =
@@ -59,68 +57,31 @@ counts_more bit n bits bins v x is bin h reads =
     at w l (no ne) =
         get_or-set_other bins v w (x + 1) 0 ne ∙ omega (arith, had w l, same_ne (bin_of (bit n) bits) w (λ z. ne (sym z ∙ sym bin))) ∙ sym (get_d_counts bit (suc n) bits w l)
 
--- ---- block after block: the blocks gone over are in the bins, and `rest` is left of the data
-pub record Counted (B : ℕ) (low : Bool) (bytes bits bins rest : List ℕ) (size : ℕ) : Type 0 where
-  pub blocks : ℕ
-  pub counts : bins ≡ counts_of (recorded_bit B low bytes) blocks bits
-  pub left : rest ≡ drop (blocks * size) bytes
-  pub sized : size ≡ block_bytes B
-  pub inside : blocks * size ≤ length bytes
+-- no bin has more than the blocks counted
+pub counts_small : (bit : ℕ → ℕ → ℕ) (n : ℕ) (bits bins : List ℕ) (v : ℕ) → bins ≡ counts_of bit n bits → v < 2 ^ length bits → get_or bins v 0 ≤ n
+counts_small bit n bits bins v is h = omega (arith, ap (λ (s : List ℕ). get_or s v 0) is, get_d_counts bit n bits v h, count_le bit n bits v)
 
-pub none_counted : (B : ℕ) (low : Bool) (bytes bits bins rest : List ℕ) (size : ℕ) → bins ≡ replicate (2 ^ length bits) 0 → rest ≡ bytes → size ≡ block_bytes B → Counted B low bytes bits bins rest size
-none_counted B low bytes bits bins rest size e all sized =
-    record {
-      blocks = 0;
-      counts = e ∙ counts_none (recorded_bit B low bytes) bits;
-      left = rw zero-mul all;
-      sized = sized;
-      inside = omega (arith, zero-mul size);
-    }
+-- ---- a block of the data
 
-module _ (B : ℕ) (low : Bool) (bytes bits bins rest : List ℕ) (size : ℕ) (d : Counted B low bytes bits bins rest size) where
-  left_length : d.blocks * size + length rest ≡ length bytes
-  left_length = omega (arith, ap length d.left ∙ length-drop (d.blocks * size) bytes, d.inside)
+-- a whole block ends within the data
+pub block_end : (e size long : ℕ) → e < long / size → e * size + size ≤ long
+block_end e size long h =
+    let next : suc e * size ≤ long / size * size = mul-le-mul_right size h in
+    omega (arith, next, div-mul-le_self long size)
 
-  -- what is left has no block more
-  pub all_counted : length rest < size → bins ≡ counts_of (recorded_bit B low bytes) (blocks_in B bytes) bits
-  all_counted h =
-      let all : blocks_in B bytes ≡ d.blocks = ap (λ (m : ℕ). length bytes / m) (sym d.sized) ∙ ap (λ (m : ℕ). m / size) (sym left_length) ∙ div-mul-add d.blocks size (length rest) h in
-      d.counts ∙ ap (λ (n : ℕ). counts_of (recorded_bit B low bytes) n bits) (sym all)
+-- the bytes of block e as the code takes them
+abbrev pub block_at : ℕ → ℕ → List ℕ → List ℕ
+block_at size e bytes = take ((e + 1) * size - e * size) (drop (e * size) bytes)
 
-  -- the next block
-  module _ (block rest' : List ℕ) (next : rest ≡ block ++ rest') (whole : length block ≡ size) where
-    fits : length block ≤ size
-    fits = omega arith
+pub block_length : (size e : ℕ) (bytes : List ℕ) → e < length bytes / size → length (block_at size e bytes) ≡ size
+block_length size e bytes h = simp (length-take, length-drop) (omega (arith, block_end e size (length bytes) h))
 
-    within : d.blocks * size + size ≤ length bytes
-    within = omega (arith, left_length, ap length next ∙ length-append block rest')
-
-    first : take size rest ≡ block
-    first = rw (next, sym whole) (take-append-le (length block) block rest' (omega arith) ∙ take-length block)
-
-    others : drop size rest ≡ rest'
-    others = rw (next, sym whole) (drop-append-le (length block) block rest' (omega arith) ∙ ap (λ (l : List ℕ). l ++ rest') (drop-length block))
-
-    -- no bin has more than the blocks before it
-    pub small : 1 ≤ size → (v : ℕ) → v < 2 ^ length bits → get_or bins v 0 < blocks_in B bytes
-    small pos v h =
-        let more : suc d.blocks ≤ length bytes / size = (le-div_iff_mul-le pos).1 (omega (arith, within)) in
-        let few : get_or bins v 0 ≤ d.blocks = omega (arith, ap (λ (s : List ℕ). get_or s v 0) d.counts, get_d_counts (recorded_bit B low bytes) d.blocks bits v h, count_le (recorded_bit B low bytes) d.blocks bits v) in
-        rw (sym d.sized) (omega arith)
-
-    -- its bin has one more
-    pub one_more : (size' v : ℕ) → size' ≡ size → v ≡ bin_of (block_bit low block) bits → v < 2 ^ length bits → Counted B low bytes bits (set bins v (get_or bins v 0 + 1)) rest' size'
-    unfolding recorded_bit
-    one_more size' v same is h =
-        let here : bin_of (block_bit low block) bits ≡ bin_of (recorded_bit B low bytes d.blocks) bits = ap (λ (b : List ℕ). bin_of (block_bit low b) bits) (sym first ∙ ap (take size) d.left ∙ ap (λ (m : ℕ). take m (drop (d.blocks * m) bytes)) d.sized) in
-        rw same
-        (record {
-          blocks = d.blocks + 1;
-          counts = counts_more (recorded_bit B low bytes) d.blocks bits bins v _ d.counts (is ∙ here) h refl;
-          left = sym others ∙ ap (drop size) d.left ∙ drop-drop size (d.blocks * size) bytes ∙ ap (λ (m : ℕ). drop m bytes) (omega arith);
-          sized = d.sized;
-          inside = omega (arith, within);
-        })
+-- have the bin of the recording's block e
+pub block_bin : (B : ℕ) (low : Bool) (e : ℕ) (bits bytes : List ℕ) → bin_of (block_bit low (block_at (block_bytes B) e bytes)) bits ≡ bin_of (recorded_bit B low bytes e) bits
+unfolding recorded_bit
+block_bin B low e bits bytes =
+    let size : (e + 1) * block_bytes B - e * block_bytes B ≡ block_bytes B = omega arith in
+    ap (λ (m : ℕ). bin_of (block_bit low (take m (drop (e * block_bytes B) bytes))) bits) size
 
 -- ---- the sum of the first counts
 

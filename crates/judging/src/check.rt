@@ -38,7 +38,7 @@ pub fn shape_refusal(finding: Finding, order: usize) -> Result<(), Refusal>
 }
 
 // 7, unless the scratch has an entry for each bin.
-// Kept: that k is at most 20 stands in three contracts of this crate and in no type, since the width of a finding is a plain number in the C interface.
+// Kept: that k is at most 20 stands in three contracts of this crate and in no type, since `shape_refusal` answers 2 for a finding of a greater width, which a type would exclude.
 pub fn scratch_refusal(k: usize, scratch: usize) -> Result<(), Refusal>
     requires { k ≤ 20 }
     ensures { refusal_of result ≡ scratch_refusal k scratch }

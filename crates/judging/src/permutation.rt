@@ -20,10 +20,7 @@ fn mark(order: &[u32], seen: &mut [u32]) -> bool
 {
     for bin in order.iter().rev() {
         let v = *bin as usize;
-        if v >= seen.len() {
-            return false;
-        }
-        if seen[v] != 0 {
+        if v >= seen.len() || seen[v] != 0 {
             return false;
         }
         seen[v] = 1;

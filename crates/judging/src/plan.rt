@@ -13,6 +13,7 @@ pub struct Planned {
 }
 
 // A plan: the number of pairs, and the pairs, 0 in both numbers past the planned ones.
+// Kept: `as_plan` and `plan_of` say what all seven entries are, the zeros past the planned pairs too, and fixed memory has no list of fewer.
 #[derive(Clone, Copy)]
 pub struct Plan {
     pub pairs: usize,

@@ -19,6 +19,8 @@ pub fn split_refusal(raw: &[u8], block_size: usize) -> Result<(), Refusal>
     Ok(())
 }
 
+// Kept: `first_part` and `second_part` of specs/Split.antt, and README, have an empty part where the split is refused, and no Result.
+
 // The first part, of the raw slice itself: the training blocks, or every whole block where there is no training. Empty when refused.
 pub fn first_part(raw: &[u8], block_size: usize, training: bool) -> &[u8]
     ensures { result.now ≡ first_part raw.now block_size training }

@@ -10,6 +10,7 @@ use judging::training::train;
 use searching::finding::Finding;
 
 // A block size and a width of the plan, and the bit order.
+// Kept: no `Planned` in it, since `pair_at`, `tested_of` and `Testable` of specs/Pair.antt have the two numbers as fields of a pair itself.
 #[derive(Clone, Copy)]
 pub struct Pair {
     pub block_size: usize,
@@ -18,6 +19,7 @@ pub struct Pair {
 }
 
 // The finding of a pair, how many testing blocks it was evaluated on, how many of them are positive, and both ends of the chance of that in units of 2^-40.
+// Kept: no `Ends` in it, since `judged_of`, `lowest_of`, `counted` and `SweepsConclude` have both ends as fields of a test itself.
 #[derive(Clone, Copy)]
 pub struct Tested {
     pub finding: Finding,

@@ -7,6 +7,7 @@ use searching::finding::no_finding;
 
 // How many pairs were tested; whether the last of them was rejected, which ends the sweep; whether a bracket reaches down below the share; the pair with
 // the lowest lower end, and the last one.
+// Kept: two flags and no enum, since `begun` and `counted` set them each by itself and `verdict_of` and `number_with`, on which `SweepsConclude` stands, take them so.
 // Kept: `begun` and `lowest_of`, on which `SweepsConclude` stands, have a test with every field 0 where none was made, and no Option.
 #[derive(Clone, Copy)]
 pub struct Progress {
@@ -55,6 +56,7 @@ fn lowest_of(progress: Progress, tested: Tested) -> Tested
 }
 
 // Every field 0.
+// Kept: `none_tested` is the test in `begun`, and beside a refusal in `refused_sweep`; a derived default has no such definition.
 pub fn none() -> Tested
     ensures { result ≡ none_tested }
 {
