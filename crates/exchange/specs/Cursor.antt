@@ -35,11 +35,6 @@ abbrev pub digit_first : List ℕ → Bool
 digit_first [] = false
 digit_first (c ∷ s) = is_digit c
 
--- something was read
-abbrev pub IsRead : {A : Type 0} → maybe.Option A → Type 0
-IsRead none = ⊥
-IsRead (some a) = Unit {0}
-
 -- ---- arrays
 
 -- how many numbers were read

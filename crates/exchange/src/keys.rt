@@ -55,6 +55,7 @@ fn read_name(s: &[u8]) -> Option<(Name, &[u8])>
         Name::LowFirst,
         Name::ZScore,
     ];
+    // Kept: `find_map` is no plainer, since its closure makes a pair of the key and what `?` leaves of the text.
     for name in names {
         if let Some(left) = token(s, name.quoted()) {
             return Some((name, left));

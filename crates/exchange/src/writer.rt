@@ -9,6 +9,7 @@ use crate::decimals::{digits, listed_length, put_decimal, put_listed};
 use counting::block::bin_count;
 use counting::refusal::Refusal;
 use judging::check::validate;
+use sampling::feeding::write_bytes;
 use searching::finding::Finding;
 use subsets::bits::valid_width;
 
@@ -42,6 +43,7 @@ pub fn longest_text(k: usize) -> usize
     ensures { result ≡ longest_text k }
 {
     if !valid_width(k) {
+        // Kept: 0 for no width, since `jimrawel_longest_text` and `longest_text` of specs/ say so.
         return 0;
     }
     81 + 5 * k + (bin_count(k) + 1) * (2 + 3 * k / 10)
@@ -134,13 +136,11 @@ fn low_text(low_first: bool) -> &'static [u8]
 }
 
 // Writes bytes from place `at` on; answers the place behind them.
-#[tactic(auto, unfolding(counting::specs::Buffer::put))]
 fn put_bytes(out: &mut [u8], at: usize, bytes: &[u8]) -> usize
     requires { at + length bytes.now ≤ length out.old }
     ensures value { result ≡ at + length bytes.now }
     ensures out_after { out.new ≡ put out.old at bytes.now }
 {
-    let to = at + bytes.len();
-    out[at..to].copy_from_slice(bytes);
-    to
+    write_bytes(out, at, bytes);
+    at + bytes.len()
 }
