@@ -20,7 +20,7 @@ fn read_full(stdin: Stdin, space: &mut [u8]) -> io::Result<usize>
 {
     let mut stdin = stdin;
     let mut done = 0;
-    // Kept: the step is what was read, not a count.
+    // Kept: the step is what was read, not a count. (`cases::input::read_full` is the same; a rule of the project keeps both: the product stands on no crate of the tests, and no crate below reads.)
     while done < space.len() {
         let read = stdin.read(&mut space[done..])?;
         if read == 0 {

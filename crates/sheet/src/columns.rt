@@ -54,18 +54,16 @@ pub fn symbol_at(value: u64, place: usize) -> u8
 fn symbol_of(place: usize, rest: u64) -> u8
     ensures { result ≡ symbol place rest }
 {
-    if place == 0 {
-        return digit(rest);
+    if place == 0 || rest != 0 {
+        digit(rest)
+    } else {
+        b' '
     }
-    if rest == 0 {
-        return b' ';
-    }
-    digit(rest)
 }
 
 // The last decimal digit of a number, in ASCII.
 fn digit(value: u64) -> u8
     ensures { result ≡ 48 + value % 10 }
 {
-    48 + (value % 10) as u8
+    b'0' + (value % 10) as u8
 }

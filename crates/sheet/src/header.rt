@@ -67,6 +67,7 @@ fn is_written(input: &[u8], at: usize, n: u64) -> bool
     requires { at + 6 ≤ length input.now }
     ensures { result ≡ match_to input.now at 6 n 6 }
 {
+    // Kept: `(0..6).all(..)` was tried; the search found neither way of `result ≡ true` for a column's `input[at + i] == symbol_at(n, 5 - i)` from what `all` says of its calls.
     for i in (0..6).rev() {
         if input[at + i] != symbol_at(n, 5 - i) {
             return false;

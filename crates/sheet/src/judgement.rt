@@ -79,6 +79,6 @@ fn number_of(score: Score) -> f64
 {
     match score {
         Score::Z(z) => z,
-        Score::NoSample => 0.0 / 0.0,
+        Score::NoSample => f64::NAN,
     }
 }

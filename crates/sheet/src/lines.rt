@@ -27,6 +27,7 @@ pub fn put_refusal(out: &mut [u8], refusal: Refusal) -> usize
     ensures { Printed (line 8 (number_of refusal ∷ [])) out.old result out.new }
 {
     if out.len() < 9 {
+        // Kept: 0 for no room, since `Printed` and README say so.
         return 0;
     }
     let value = [refusal as u64];
@@ -37,8 +38,8 @@ pub fn put_refusal(out: &mut [u8], refusal: Refusal) -> usize
 pub fn pattern(z: f64) -> u64
     ensures { result ≡ to_bits binary64 z }
 {
-    if z != z {
-        return 9221120237041090560;
+    if z.is_nan() {
+        return 0x7ff8_0000_0000_0000;
     }
     f64::to_bits(z)
 }
@@ -47,5 +48,5 @@ pub fn pattern(z: f64) -> u64
 pub fn wide(bits: [u32; 20]) -> [u64; 20]
     ensures { result ≡ bits }
 {
-    bits.map(|bit| bit as u64)
+    bits.map(u64::from)
 }

@@ -31,6 +31,7 @@ fn put_sheet(input: &[u8], out: &mut [u8]) -> usize
     let block_size = field_at(input, 0);
     let k = field_at(input, 6);
     if out.len() < 91 + 8 * k {
+        // Kept: 0 for no room, since `Printed` and README say so.
         return 0;
     }
     let raw = &input[13..];
