@@ -54,7 +54,7 @@ fn count_bins(acc: &mut [u64], bits: &[u32], words: &[u64], stretch: Stretch, bi
     bins.fill(0);
     unmark(acc, stretch.first % 64);
     for start in (stretch.first / 64..stretch.end.div_ceil(64)).step_by(512) {
-        add_bins(acc, words, chunk_at(stretch, start), bits, bins);
+        add_bins(acc, words, &chunk_at(stretch, start), bits, bins);
         // Only the first chunk may begin inside a word.
         acc[0] = u64::MAX;
     }
@@ -174,19 +174,19 @@ fn add_each(acc: &[u64], next: usize, words: &[u64], chunk: Chunk, counts: &mut 
 
 // Adds to each bin of the bits the marked blocks in it. By the last bit, so that a bin with and one without it are half the bins
 // apart: the marks of either half are ANDed once for all its bins, and every bin is counted from rows.
-fn add_bins(acc: &[u64], words: &[u64], chunk: Chunk, bits: &[u32], bins: &mut [u32])
+fn add_bins(acc: &[u64], words: &[u64], chunk: &Chunk, bits: &[u32], bins: &mut [u32])
     requires in_bounds { (1 ≤ length bits.now) × (length bits.now ≤ 20) × (length bins.old ≡ 2 ^ length bits.now) }
-    requires rows_in { RowsIn words.now chunk.stride bits.now }
-    requires lanes_in { LanesIn chunk.stride chunk.start chunk.lanes × (chunk.lanes ≤ 64 * length acc.now) }
-    requires count_room { CountRoom chunk.lanes bins.old }
-    ensures { (v : ℕ) → v < length bins.old → get_or bins.new v 0 ≡ get_or bins.old v 0 + marked_in (lane_of (word_at acc.now)) (onward (64 * chunk.start) (stored_bit chunk.stride words.now)) bits.now chunk.lanes v }
+    requires rows_in { RowsIn words.now chunk.now.stride bits.now }
+    requires lanes_in { LanesIn chunk.now.stride chunk.now.start chunk.now.lanes × (chunk.now.lanes ≤ 64 * length acc.now) }
+    requires count_room { CountRoom chunk.now.lanes bins.old }
+    ensures { (v : ℕ) → v < length bins.old → get_or bins.new v 0 ≡ get_or bins.old v 0 + marked_in (lane_of (word_at acc.now)) (onward (64 * chunk.now.start) (stored_bit chunk.now.stride words.now)) bits.now chunk.now.lanes v }
 {
     let last = bits.len() - 1;
     if last < 2 {
         add_few(acc, words, chunk, bits, bins);
         return;
     }
-    let row = row_part(words, bits[last] as usize, chunk);
+    let row = row_part(words, bits[last] as usize, *chunk);
     let half = bins.len() / 2;
     let mut part = all_marked::<512>();
     and_to(&mut part, acc, row, 0);
@@ -196,19 +196,19 @@ fn add_bins(acc: &[u64], words: &[u64], chunk: Chunk, bits: &[u32], bins: &mut [
 }
 
 // The same for one bit or two, with no marks between.
-fn add_few(acc: &[u64], words: &[u64], chunk: Chunk, bits: &[u32], bins: &mut [u32])
+fn add_few(acc: &[u64], words: &[u64], chunk: &Chunk, bits: &[u32], bins: &mut [u32])
     requires in_bounds { (1 ≤ length bits.now) × (length bits.now ≤ 2) × (length bins.old ≡ 2 ^ length bits.now) }
-    requires rows_in { RowsIn words.now chunk.stride bits.now }
-    requires lanes_in { LanesIn chunk.stride chunk.start chunk.lanes × (chunk.lanes ≤ 64 * length acc.now) }
-    requires count_room { CountRoom chunk.lanes bins.old }
-    ensures { (v : ℕ) → v < length bins.old → get_or bins.new v 0 ≡ get_or bins.old v 0 + marked_in (lane_of (word_at acc.now)) (onward (64 * chunk.start) (stored_bit chunk.stride words.now)) bits.now chunk.lanes v }
+    requires rows_in { RowsIn words.now chunk.now.stride bits.now }
+    requires lanes_in { LanesIn chunk.now.stride chunk.now.start chunk.now.lanes × (chunk.now.lanes ≤ 64 * length acc.now) }
+    requires count_room { CountRoom chunk.now.lanes bins.old }
+    ensures { (v : ℕ) → v < length bins.old → get_or bins.new v 0 ≡ get_or bins.old v 0 + marked_in (lane_of (word_at acc.now)) (onward (64 * chunk.now.start) (stored_bit chunk.now.stride words.now)) bits.now chunk.now.lanes v }
 {
-    let low = row_part(words, bits[0] as usize, chunk);
+    let low = row_part(words, bits[0] as usize, *chunk);
     if bits.len() == 1 {
         add_two(acc, low, chunk.lanes, bins);
         return;
     }
-    let high = row_part(words, bits[1] as usize, chunk);
+    let high = row_part(words, bits[1] as usize, *chunk);
     add_four(acc, high, low, chunk.lanes, bins);
 }
 

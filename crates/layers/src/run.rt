@@ -12,6 +12,7 @@ ghost use Rattle.layers.specs.Run.{Shared, Run, last_bit, leading};
 
 use crate::bins::{Layered, rejoin_bins};
 use crate::size::widest;
+use counting::buffer::copy;
 use counting::rows::multi_eval;
 use subsets::stepping::successor;
 
@@ -58,7 +59,7 @@ impl Layered<'_> {
         let end = 441 + self.stretch.block_size;
         let at = bits.len() - 1;
         if at == 0 {
-            run[441..end].copy_from_slice(&self.store[..self.stretch.block_size]);
+            copy(&self.store[..self.stretch.block_size], &mut run[441..end]);
             return;
         }
         let last = bits[at] as usize;

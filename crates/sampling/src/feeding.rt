@@ -6,6 +6,7 @@ ghost use Rattle.sampling.specs.Sampler.{pending};
 
 use crate::putting::{Layout, Place};
 use crate::sampler::{Head, Sampler, capacity_blocks, sampler_refusal};
+use counting::buffer::copy;
 use counting::refusal::Refusal;
 
 // What a feed changes of the numbers: n, and how many unfinished bytes its board has.
@@ -148,7 +149,7 @@ pub fn write_bytes(unfinished: &mut [u8], at: usize, bytes: &[u8])
     requires { at + length bytes.now ≤ length unfinished.old }
     ensures { unfinished.new ≡ put unfinished.old at bytes.now }
 {
-    unfinished[at..at + bytes.len()].copy_from_slice(bytes);
+    copy(bytes, &mut unfinished[at..at + bytes.len()]);
 }
 
 // Writes 0 from a place to before an end.

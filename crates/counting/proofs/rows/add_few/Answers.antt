@@ -19,8 +19,8 @@ returns-then-bits-eq1 c =
     let a = c.args in
     let one : length a.bits.now ≡ 1 = c.if-bits-eq1.true in
     let bins' = c.add_two.new.bins in
-    two_bins a.words.now a.chunk.stride a.chunk.start a.chunk.lanes a.bits.now 0 _ one refl (word_at a.acc.now) a.bins.now bins' refl (power (goal.at.returns-then-bits-eq1 c).Start 1 one)
-    (subst (λ (row : List ℕ). Parted (word_at a.acc.now) row a.chunk.lanes 0 a.bins.now bins') c.row_part-low.ensures.value c.add_two.ensures)
+    two_bins a.words.now a.chunk.now.stride a.chunk.now.start a.chunk.now.lanes a.bits.now 0 _ one refl (word_at a.acc.now) a.bins.now bins' refl (power (goal.at.returns-then-bits-eq1 c).Start 1 one)
+    (subst (λ (row : List ℕ). Parted (word_at a.acc.now) row a.chunk.now.lanes 0 a.bins.now bins') c.row_part-low.ensures.value c.add_two.ensures)
 
 pub returns : goal.returns
 returns c =
@@ -30,9 +30,9 @@ returns c =
     let k : length a.bits.now ≡ 2 = omega (arith, c.requires.in_bounds) in
     let high = c.row_part-high in
     let low = c.row_part-low in
-    let both : (flip at : ℕ) → Parted (word_with (word_at a.acc.now) high.result.now flip) low.result.now a.chunk.lanes at a.bins.now bins'
-    → Parted (word_with (word_at a.acc.now) (row_part a.chunk a.words.now (get_or a.bits.now 1 0)) flip) (row_part a.chunk a.words.now (get_or a.bits.now 0 0)) a.chunk.lanes at a.bins.now bins' =
-    λ flip at p. subst (λ (row : List ℕ). Parted (word_with (word_at a.acc.now) row flip) (row_part a.chunk a.words.now (get_or a.bits.now 0 0)) a.chunk.lanes at a.bins.now bins') high.ensures.value
-    (subst (λ (row : List ℕ). Parted (word_with (word_at a.acc.now) high.result.now flip) row a.chunk.lanes at a.bins.now bins') low.ensures.value p) in
-    four_bins a.words.now a.chunk.stride a.chunk.start a.chunk.lanes a.bits.now _ _ k refl refl (omega (arith, c.requires.rows_in 1 (omega arith), c.requires.lanes_in)) (word_at a.acc.now) a.bins.now bins' (power (goal.at.returns c).Start 2 k)
+    let both : (flip at : ℕ) → Parted (word_with (word_at a.acc.now) high.result.now flip) low.result.now a.chunk.now.lanes at a.bins.now bins'
+    → Parted (word_with (word_at a.acc.now) (row_part a.chunk.now a.words.now (get_or a.bits.now 1 0)) flip) (row_part a.chunk.now a.words.now (get_or a.bits.now 0 0)) a.chunk.now.lanes at a.bins.now bins' =
+    λ flip at p. subst (λ (row : List ℕ). Parted (word_with (word_at a.acc.now) row flip) (row_part a.chunk.now a.words.now (get_or a.bits.now 0 0)) a.chunk.now.lanes at a.bins.now bins') high.ensures.value
+    (subst (λ (row : List ℕ). Parted (word_with (word_at a.acc.now) high.result.now flip) row a.chunk.now.lanes at a.bins.now bins') low.ensures.value p) in
+    four_bins a.words.now a.chunk.now.stride a.chunk.now.start a.chunk.now.lanes a.bits.now _ _ k refl refl (omega (arith, c.requires.rows_in 1 (omega arith), c.requires.lanes_in)) (word_at a.acc.now) a.bins.now bins' (power (goal.at.returns c).Start 2 k)
     (both 18446744073709551615 0 c.add_four.ensures.parted) (both 0 2 c.add_four.ensures.parted_2)

@@ -8,4 +8,4 @@ use Rattle.sampling.proofs.feeding.write_bytes.Goals as goal
 pub returns : goal.returns
 returns c =
     let a = c.args in
-    put_part a.unfinished.now a.at (a.at + length a.bytes.now - a.at) c.copy_from_slice.new.self a.bytes.now (c.copy_from_slice.ensures.after) (omega arith)
+    put_part a.unfinished.now a.at (a.at + length a.bytes.now - a.at) c.copy.new.to a.bytes.now (c.copy.ensures) (omega arith)

@@ -24,25 +24,25 @@ inside s =
 room : (s : Start) → s.args.self.now.stretch.block_size ≤ length s.args.self.now.store.now
 room s = omega (arith, store_room s.args.self.now.stretch.block_size s.args.self.now.k, s.args.self.now.holds.roomy.room)
 
-pub slice_bounds-copy_from_slice-end-then-at-eq0 : goal.slice_bounds-copy_from_slice-end-then-at-eq0
-slice_bounds-copy_from_slice-end-then-at-eq0 c =
-    sym (length-take-le c.args.self.now.stretch.block_size c.args.self.now.store.now (room (goal.at.slice_bounds-copy_from_slice-end-then-at-eq0 c).Start))
+pub slice_bounds-copy-end : goal.slice_bounds-copy-end
+slice_bounds-copy-end c =
+    sym (length-take-le c.args.self.now.stretch.block_size c.args.self.now.store.now (room (goal.at.slice_bounds-copy-end c).Start))
 
-pub copy_from_slice-requires : goal.copy_from_slice-requires
-copy_from_slice-requires c =
+pub copy-requires : goal.copy-requires
+copy-requires c =
     let a = c.args in
     let B = a.self.now.stretch.block_size in
     let e : B ≡ 441 + B - 441 = omega arith in
-    mid_len 441 (441 + B) a.run.now c.requires.block_size_in_bounds ∙ sym e ∙ sym (length-take-le B a.self.now.store.now (room (goal.at.copy_from_slice-requires c).Start))
+    mid_len 441 (441 + B) a.run.now c.requires.block_size_in_bounds ∙ sym e ∙ sym (length-take-le B a.self.now.store.now (room (goal.at.copy-requires c).Start))
 
 pub returns-then-at-eq0 : goal.returns-then-at-eq0
 returns-then-at-eq0 c =
     let a = c.args in
     let B = a.self.now.stretch.block_size in record {
       by_index = λ b l h.
-          counted_single (stretch_bit a.self.now.stretch a.self.now.words.now) (span a.self.now.stretch) B a.bits.now a.run.now a.self.now.store.now c.copy_from_slice.new.self c.if-at-eq0.true
-          c.requires.block_size_in_bounds (held (stretch_bit a.self.now.stretch a.self.now.words.now) (span a.self.now.stretch) B a.self.now.k a.bits.now a.self.now.store.now c.requires.subset c.args.self.now.holds) c.copy_from_slice.ensures.after b h;
-      run_unchanged = part_spares 441 441 (441 + B - 441) a.run.now c.copy_from_slice.new.self (omega arith) (omega (arith, c.requires.block_size_in_bounds));
+          counted_single (stretch_bit a.self.now.stretch a.self.now.words.now) (span a.self.now.stretch) B a.bits.now a.run.now a.self.now.store.now c.copy.new.to c.if-at-eq0.true
+          c.requires.block_size_in_bounds (held (stretch_bit a.self.now.stretch a.self.now.words.now) (span a.self.now.stretch) B a.self.now.k a.bits.now a.self.now.store.now c.requires.subset c.args.self.now.holds) c.copy.ensures b h;
+      run_unchanged = part_spares 441 441 (441 + B - 441) a.run.now c.copy.new.to (omega arith) (omega (arith, c.requires.block_size_in_bounds));
     }
 
 pub slice_bounds-multi_eval-count : goal.slice_bounds-multi_eval-count
