@@ -2,23 +2,23 @@
 use mathlib.Core.Path.{◌≡◌, refl, sym, ap, ◌∙◌}
 use mathlib.Core.Bool.{Bool, true, false, cond, ◌&&◌}
 use mathlib.Core.List.{List, [], ◌∷◌}
-use mathlib.Core.Option.{none, some}
+use mathlib.Core.Option.{Option, none, some}
 use Prim.Native.Nat.{ℕ, ◌+◌, ◌-◌, ◌*◌, ◌≤◌, ◌<◌}
 use native.Mathlib.Omega.{arith}
-use lib.Dec.{eqb}
+use lib.Dec.{eqb, leb}
 use lib.ListN.{length, take, drop}
 use lib.Pointwise.{pointwise}
 use Rattle.std.proofs.lemmas.Grind.{common_steps}
 use Rattle.std.specs.Prelude.{slice_index_or}
-use borrow.Author.Tests.{le-leb, lt-leb}
+use borrow.Author.Tests.{le-leb, lt-leb, leb-true}
 use Rattle.std.specs.Prelude.{Some, None, MatchOption}
 use Rattle.std.specs.Prelude as code
 use Rattle.std.specs.Borrow.{Bor}
 use Rattle.exchange.specs.Grammar.{is_digit}
 use Rattle.exchange.specs.Reader.{read_exactly, read_digits, held}
-use Rattle.exchange.specs.Cursor.{left_of}
+use Rattle.exchange.specs.Cursor.{IsRead, left_of}
 use Rattle.exchange.proofs.Following.{digits_grow, digits_rest}
-use Rattle.exchange.proofs.Tokens.{both}
+use Rattle.exchange.proofs.Tokens.{both, none_some}
 
 -- ---- fixed bytes
 
@@ -76,3 +76,33 @@ not_held n s h = let over : 4294967295 < (read_digits n s).0 = omega (arith, dig
 
 pub is_held : (n : ℕ) (t : List ℕ) → n ≤ 4294967295 → held (n, t) ≡ some (n, t)
 is_held n t h = rw (le-leb n 4294967295 h)
+
+-- ---- a number that is known to stand there
+
+pub none_unread : {A : Type 0} (o : Option A) → o ≡ none → IsRead o → ⊥
+none_unread none e h = h
+none_unread (some a) e h = none_some (sym e)
+
+pub is_read : {A : Type 0} (o : Option A) (a : A) → o ≡ some a → IsRead o
+is_read none a e = none_some e
+is_read (some b) a e = Prim.tt {0}
+
+by_fit : (b : Bool) (q : ℕ × List ℕ) → leb q.0 4294967295 ≡ b → IsRead (cond b (some q) none) → q.0 ≤ 4294967295
+by_fit true q e h = leb-true q.0 4294967295 e
+by_fit false q e h = absurd h
+
+pub read_held : (q : ℕ × List ℕ) → IsRead (held q) → q.0 ≤ 4294967295
+read_held q h = by_fit (leb q.0 4294967295) q refl h
+
+-- a digit that stands first, behind a number so far: the number with it leads where both lead
+pub known_next : (n : ℕ) (s : List ℕ) → 1 ≤ length s → is_digit (slice_index_or s 0 0) ≡ true
+    → read_digits (10 * n + (slice_index_or s 0 0 - 48)) (behind_first s) ≡ read_digits n s
+unfolding read_digits
+known_next n s h e =
+    let step : read_digits (10 * n + (slice_index_or s 0 0 - 48)) (behind_first s) ≡ read_digits n (slice_index_or s 0 0 ∷ behind_first s) = rw e in
+    step ∙ ap (read_digits n) (sym (front s h))
+
+-- and is no larger than the whole number
+pub known_small : (n : ℕ) (s : List ℕ) → 1 ≤ length s → is_digit (slice_index_or s 0 0) ≡ true → 10 * n + (slice_index_or s 0 0 - 48) ≤ (read_digits n s).0
+known_small n s h e =
+    omega (arith, digits_grow (10 * n + (slice_index_or s 0 0 - 48)) (behind_first s), ap (λ (r : ℕ × List ℕ). r.0) (known_next n s h e))

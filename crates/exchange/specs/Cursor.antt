@@ -30,6 +30,11 @@ abbrev pub rest_of : Read ℕ → maybe.Option (List ℕ)
 rest_of none = none
 rest_of (some p) = some p.1
 
+-- something was read
+abbrev pub IsRead : {A : Type 0} → maybe.Option A → Type 0
+IsRead none = ⊥
+IsRead (some a) = Unit {0}
+
 -- a digit stands first
 abbrev pub digit_first : List ℕ → Bool
 digit_first [] = false

@@ -7,7 +7,7 @@ ghost use Rattle.exchange.specs.Arrays.{numbers_in};
 
 use crate::cursor::{skip_space, token};
 use crate::listed::Listed;
-use crate::words::{read_word, skip_word};
+use crate::words::{known_word, skip_word};
 
 // An array of whole numbers that 32 bits hold.
 #[tactic(auto, using(crate::proofs::Storing::counted_none), unfolding(crate::specs::Reader::read_array, crate::specs::Arrays::numbers_in))]
@@ -47,9 +47,7 @@ pub fn store_entries(s: &[u8], to: &mut [u32])
 {
     let mut left = token(s, b"[").unwrap_or(s);
     for entry in to.iter_mut() {
-        let Some((value, more)) = read_word(left) else {
-            unreachable!()
-        };
+        let (value, more) = known_word(left);
         let [_, behind @ ..] = skip_space(more) else {
             unreachable!()
         };

@@ -3,7 +3,7 @@ ghost use Rattle.std.specs.Prelude.{◌≡◌};
 ghost use Rattle.exchange.specs.Reader.{quoted, names, read_name, read_key};
 ghost use Rattle.exchange.specs.Cursor.{read_of};
 
-use crate::cursor::token;
+use crate::cursor::{skip_space, token};
 
 // bits, sorted_indices, best_division, block_size, low_first, z_score.
 #[derive(Clone, Copy)]
@@ -55,9 +55,11 @@ fn read_name(s: &[u8]) -> Option<(Name, &[u8])>
         Name::LowFirst,
         Name::ZScore,
     ];
+    // Passed once, and not by each token anew.
+    let from = skip_space(s);
     // Kept: `find_map` is no plainer, since its closure makes a pair of the key and what `?` leaves of the text.
     for name in names {
-        if let Some(left) = token(s, name.quoted()) {
+        if let Some(left) = token(from, name.quoted()) {
             return Some((name, left));
         }
     }

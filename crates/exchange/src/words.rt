@@ -1,7 +1,8 @@
 // Whole numbers that 32 bits hold.
-ghost use Rattle.std.specs.Prelude.{◌≡◌, ◌≤◌};
+ghost use Rattle.std.specs.Prelude.{◌≡◌, ◌≤◌, Some};
+ghost use Rattle.std.proofs.Math.Option.{some};
 ghost use Rattle.exchange.specs.Reader.{read_digits, read_word, held};
-ghost use Rattle.exchange.specs.Cursor.{digit_first, left_of, read_of, rest_of};
+ghost use Rattle.exchange.specs.Cursor.{IsRead, digit_first, left_of, read_of, rest_of};
 
 use crate::cursor::skip_space;
 
@@ -45,6 +46,34 @@ fn read_digits(first: u8, s: &[u8]) -> Option<(u32, &[u8])>
         left = more;
     }
     Some((n as u32, left))
+}
+
+// A whole number that is known to stand there: only its end is looked for.
+#[tactic(auto, unfolding(crate::specs::Reader::read_word, crate::specs::Reader::read_whole, crate::specs::Grammar::is_digit))]
+pub fn known_word(s: &[u8]) -> (u32, &[u8])
+    requires { IsRead (read_word s.now) }
+    ensures { read_of (Some result) ≡ read_word s.now }
+{
+    match skip_space(s) {
+        [c @ b'1'..=b'9', more @ ..] => known_digits(*c - b'0', more),
+        [_, left @ ..] => (0, left),
+        _ => unreachable!(),
+    }
+}
+
+// The number that a digit makes with those that follow, which 32 bits are known to hold.
+#[tactic(auto, unfolding(crate::specs::Reader::read_digits, crate::specs::Grammar::is_digit))]
+fn known_digits(first: u8, s: &[u8]) -> (u32, &[u8])
+    requires { (read_digits first s.now).0 ≤ 4294967295 }
+    ensures { read_of (Some result) ≡ some (read_digits first s.now) }
+{
+    let mut n = u32::from(first);
+    let mut left = s;
+    while let [c @ b'0'..=b'9', more @ ..] = left {
+        n = 10 * n + u32::from(*c - b'0');
+        left = more;
+    }
+    (n, left)
 }
 
 // A whole number that 32 bits hold, white space before it, read past and not kept. Most numbers of a long order have five digits.
