@@ -105,8 +105,16 @@ pub extern "C" fn jimrawel_carry_over(
     }
     let carried = carry_over(read_earlier(earlier), words);
     let refusal = refusal_of(&carried);
-    write_sampler(carried.unwrap_or(no_sampler()), sampler, unfinished);
-    refusal
+    match carried {
+        Ok(onward) => {
+            write_sampler(onward, sampler, unfinished);
+            refusal
+        }
+        Err(_) => {
+            write_sampler(no_sampler(), sampler, unfinished);
+            refusal
+        }
+    }
 }
 
 // n: the blocks that the sampler has completed; 0 where the slice holds none.

@@ -2,7 +2,8 @@
 use mathlib.Core.Path.{◌≡◌, sym, ap, subst, ◌∙◌}
 use Prim.Native.Nat.{ℕ}
 use lib.ListN.{length}
-use Rattle.std.specs.Result.{result_unwrap_or}
+use Rattle.std.specs.Prelude.{Result}
+use Rattle.counting.specs.declared.refusal.Refusal.{Refusal}
 use Rattle.sampling.specs.Carrying.{as_carried}
 use Rattle.sampling.specs.declared.sampler.Sampler.{Sampler}
 use Rattle.exports.specs.Samplers.{SamplerWritten, carry_unread}
@@ -30,15 +31,20 @@ write_sampler-requires c =
     let r = carry_room _ _ _ (none (goal.at.write_sampler-requires c).Else-is_err) in
     (r.1, r.2)
 
-pub returns : goal.returns
-returns c =
+pub write_sampler-requires-in-Err : goal.write_sampler-requires-in-Err
+write_sampler-requires-in-Err c =
+    let r = carry_room _ _ _ (none (goal.at.write_sampler-requires-in-Err c).Else-is_err) in
+    (r.1, r.2)
+
+pub returns-in-Err : goal.returns-in-Err
+returns-in-Err c =
     let a = c.args in
     let x = c.carry_over-carried.result in
     let i = carried_is x in
-    let sampler : c.unwrap_or.result ≡ (as_carried x).sampler = c.unwrap_or.ensures ∙ ap (result_unwrap_or x) c.no_sampler.ensures ∙ i.1 in
-    let wrote = subst (λ (s : Sampler). SamplerWritten s a.sampler.now a.unfinished.now c.write_sampler.new.numbers c.write_sampler.new.bytes) sampler c.write_sampler.ensures in
-    subst (λ (r : ℕ). CarryCall a.earlier.now a.words.now a.sampler.now a.unfinished.now r c.carry_over-carried.new.words c.write_sampler.new.numbers c.write_sampler.new.bytes)
+    let sampler : c.no_sampler.result ≡ (as_carried x).sampler = c.no_sampler.ensures ∙ ap (λ (y : Result Sampler Refusal). (as_carried y).sampler) (sym c.in-Err.is) in
+    let wrote = subst (λ (s : Sampler). SamplerWritten s a.sampler.now a.unfinished.now c.write_sampler-in-Err.new.numbers c.write_sampler-in-Err.new.bytes) sampler c.write_sampler-in-Err.ensures in
+    subst (λ (r : ℕ). CarryCall a.earlier.now a.words.now a.sampler.now a.unfinished.now r c.carry_over-carried.new.words c.write_sampler-in-Err.new.numbers c.write_sampler-in-Err.new.bytes)
     (sym (c.refusal_of-refusal.ensures ∙ i.0))
     (carry_made a.earlier.now a.words.now a.sampler.now a.unfinished.now c.read_earlier.result (as_carried x) c.carry_over-carried.new.words
-    c.write_sampler.new.numbers c.write_sampler.new.bytes
-    (none (goal.at.returns c).Else-is_err) c.read_earlier.ensures c.carry_over-carried.ensures.value c.carry_over-carried.ensures.words_after wrote)
+    c.write_sampler-in-Err.new.numbers c.write_sampler-in-Err.new.bytes
+    (none (goal.at.returns-in-Err c).Else-is_err) c.read_earlier.ensures c.carry_over-carried.ensures.value c.carry_over-carried.ensures.words_after wrote)
