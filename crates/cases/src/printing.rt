@@ -1,15 +1,31 @@
-// Numbers to standard output.
-use std::fmt::Display;
+// Numbers to standard output. `print!` clears and copies about 1 KB a call, so the digits are laid here.
 use std::io;
-use std::io::{Print, Stdout};
+use std::io::{ErrorKind, Print, Stdout};
 
-// The number's decimal digits and a space, in one write.
-pub fn print<N: Display + Drop>(stdout: Stdout, number: N) -> io::Result<()> {
-    print!(stdout; "{number} ")
+// The number's decimal digits and a space, in one write. A number that no u64 holds is refused.
+pub fn print<N: TryInto<u64>>(stdout: Stdout, number: N) -> io::Result<()>
+where
+    N::Error: Drop,
+{
+    let mut rest = number.try_into().map_err(|_| ErrorKind::InvalidInput)?;
+    let mut text = [b' '; 21];
+    let mut start = 20;
+    for place in (0..20).rev() {
+        start = place;
+        text[place] = b'0' + (rest % 10) as u8;
+        rest /= 10;
+        if rest == 0 {
+            break;
+        }
+    }
+    stdout.write_all(&text[start..])
 }
 
 // Each of the numbers.
-pub fn print_all<N: Display + Copy>(stdout: Stdout, numbers: &[N]) -> io::Result<()> {
+pub fn print_all<N: TryInto<u64> + Copy>(stdout: Stdout, numbers: &[N]) -> io::Result<()>
+where
+    N::Error: Drop,
+{
     for number in numbers {
         print(stdout, *number)?;
     }
@@ -17,5 +33,5 @@ pub fn print_all<N: Display + Copy>(stdout: Stdout, numbers: &[N]) -> io::Result
 }
 
 pub fn end_line(stdout: Stdout) -> io::Result<()> {
-    println!(stdout)
+    stdout.write_all(b"\n")
 }

@@ -61,23 +61,23 @@ fn read_case(reader: &mut Reader) -> Case {
     }
 }
 
-// Lends as many entries as the case says.
+// Lends as many entries as the case says. The buffers begin as zeros, since one of another value would be copied on its way here.
 fn answer(stdout: Stdout, case: Case, raw: &[u8]) -> io::Result<()> {
     // Room for the words of every block size, and for the longest row of a bracket.
-    let mut words = filled::<u64, 8192>(99);
-    let mut entries = filled::<u64, 8192>(99);
+    let mut words = filled::<u64, 8192>(0);
+    let mut entries = filled::<u64, 8192>(0);
     // Room for up to three bits of a block of 64, and entries past them.
-    let mut store = filled::<u32, 45056>(99);
+    let mut store = filled::<u32, 45056>(0);
     // Room for the bins of 8 bits and as many entries past them.
-    let mut bins = filled::<u32, 512>(99);
-    let mut order = filled::<u32, 512>(99);
-    let mut scratch = filled::<u32, 512>(99);
-    let words = &mut words[..case.words.min(8192)];
-    let entries = &mut entries[..case.entries.min(8192)];
-    let store = &mut store[..case.store.min(45056)];
-    let bins = &mut bins[..case.bins.min(512)];
-    let order = &mut order[..case.order.min(512)];
-    let scratch = &mut scratch[..case.scratch.min(512)];
+    let mut bins = filled::<u32, 512>(0);
+    let mut order = filled::<u32, 512>(0);
+    let mut scratch = filled::<u32, 512>(0);
+    let words = lent(&mut words, case.words);
+    let entries = lent(&mut entries, case.entries);
+    let store = lent(&mut store, case.store);
+    let bins = lent(&mut bins, case.bins);
+    let order = lent(&mut order, case.order);
+    let scratch = lent(&mut scratch, case.scratch);
     let swept = sweep(
         raw,
         case.block_size,
@@ -105,6 +105,16 @@ fn answer(stdout: Stdout, case: Case, raw: &[u8]) -> io::Result<()> {
     print(stdout, changed(scratch, 0))?;
     print(stdout, changed(entries, 0))?;
     end_line(stdout)
+}
+
+// Up to `count` entries of a buffer, each 99.
+fn lent<T: Copy + From<u8>>(buffer: &mut [T], count: usize) -> &mut [T] {
+    let count = count.min(buffer.len());
+    let part = &mut buffer[..count];
+    for entry in part.iter_mut() {
+        *entry = T::from(99);
+    }
+    part
 }
 
 // What stands beside a refusal.
