@@ -41,6 +41,8 @@ fn count_entries(s: &[u8]) -> Option<(usize, &[u8])>
 }
 
 // Stores the first numbers of an array, as many as there is room for.
+// Apart in the machine code: within a reading what is left would go by way of the stack, number by number.
+#[inline(never)]
 pub fn store_entries(s: &[u8], to: &mut [u32])
     requires { length to.old ≤ length (numbers_in s.now) }
     ensures { to.new ≡ take (length to.old) (numbers_in s.now) }

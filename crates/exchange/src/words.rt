@@ -48,9 +48,32 @@ fn read_digits(first: u8, s: &[u8]) -> Option<(u32, &[u8])>
     Some((n as u32, left))
 }
 
-// A whole number that is known to stand there: only its end is looked for.
-#[tactic(auto, unfolding(crate::specs::Reader::read_word, crate::specs::Reader::read_whole, crate::specs::Grammar::is_digit))]
+// A whole number that is known to stand there: only its end is looked for. Most numbers of a long order have five digits.
 pub fn known_word(s: &[u8]) -> (u32, &[u8])
+    requires { IsRead (read_word s.now) }
+    ensures { read_of (Some result) ≡ read_word s.now }
+{
+    if let [_, _, _, _, _, left @ ..] = s
+        && !digit_first(left)
+        && let [
+            a @ b'1'..=b'9',
+            b @ b'0'..=b'9',
+            c @ b'0'..=b'9',
+            d @ b'0'..=b'9',
+            e @ b'0'..=b'9',
+            ..
+        ] = s
+    {
+        let two = 10 * u32::from(*a - b'0') + u32::from(*b - b'0');
+        let four = 10 * (10 * two + u32::from(*c - b'0')) + u32::from(*d - b'0');
+        return (10 * four + u32::from(*e - b'0'), left);
+    }
+    known_any(s)
+}
+
+// The same, of any length.
+#[tactic(auto, unfolding(crate::specs::Reader::read_word, crate::specs::Reader::read_whole, crate::specs::Grammar::is_digit))]
+fn known_any(s: &[u8]) -> (u32, &[u8])
     requires { IsRead (read_word s.now) }
     ensures { read_of (Some result) ≡ read_word s.now }
 {
@@ -80,17 +103,21 @@ fn known_digits(first: u8, s: &[u8]) -> (u32, &[u8])
 pub fn skip_word(s: &[u8]) -> Option<&[u8]>
     ensures { left_of result ≡ rest_of (read_word s.now) }
 {
-    match s {
-        [
+    // What stands sixth tells most numbers of other lengths at once.
+    if let [_, _, _, _, _, left @ ..] = s
+        && !digit_first(left)
+        && let [
             b'1'..=b'9',
             b'0'..=b'9',
             b'0'..=b'9',
             b'0'..=b'9',
             b'0'..=b'9',
-            left @ ..,
-        ] if !digit_first(left) => { Some(left) }
-        _ => skip_any(s),
+            ..
+        ] = s
+    {
+        return Some(left);
     }
+    skip_any(s)
 }
 
 // Whether a digit stands first.

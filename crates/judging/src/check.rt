@@ -10,6 +10,7 @@ use searching::finding::Finding;
 use subsets::bits::{bits_refusal, valid_width};
 
 // The check: refusals 1, 2, 9, 10, 11, 7, 13, 14. The scratch is as lent up to 7; else its first 2 ^ width entries are zeros afterwards.
+#[inline]
 pub fn validate(finding: Finding, order: &[u32], scratch: &mut [u32]) -> Result<(), Refusal>
     ensures value { refusal_of result ≡ check_refusal finding order.now (length scratch.old) }
     ensures scratch_after { scratch.new ≡ checked_scratch finding (length order.now) scratch.old }
