@@ -111,16 +111,13 @@ module _ (a b c d e : ℕ) (t : List ℕ) (la : 49 ≤ a) (ha : a ≤ 57) (lb : 
   unfolding read_digits
   five_read = rw (is_one b lb hb, is_one c lc hc, is_one d ld hd, is_one e le he) (stays all_five t end)
 
-  five_is : read_word (a ∷ b ∷ c ∷ d ∷ e ∷ t) ≡ some (all_five, t)
+  five_listed : rest_of (read_word (a ∷ b ∷ c ∷ d ∷ e ∷ t)) ≡ some t
   unfolding skip
-  five_is =
+  five_listed =
       let digit : is_digit a ≡ true = is_one a (omega arith) ha in
       let first : skip (a ∷ b ∷ c ∷ d ∷ e ∷ t) ≡ a ∷ b ∷ c ∷ d ∷ e ∷ t = rw (digit_no_space a digit) in
       let fits : all_five ≤ 4294967295 = omega arith in
-      word_digits (a ∷ b ∷ c ∷ d ∷ e ∷ t) (b ∷ c ∷ d ∷ e ∷ t) a first la ha ∙ ap held five_read ∙ is_held all_five t fits
-
-  five_listed : rest_of (read_word (a ∷ b ∷ c ∷ d ∷ e ∷ t)) ≡ some t
-  five_listed = ap rest_of five_is
+      ap rest_of (word_digits (a ∷ b ∷ c ∷ d ∷ e ∷ t) (b ∷ c ∷ d ∷ e ∷ t) a first la ha ∙ ap held five_read ∙ is_held all_five t fits)
 
 pub five_word : (s : List ℕ) → 5 ≤ length s → 49 ≤ slice_index_or s 0 0 → slice_index_or s 0 0 ≤ 57 → 48 ≤ slice_index_or s 1 0 → slice_index_or s 1 0 ≤ 57
     → 48 ≤ slice_index_or s 2 0 → slice_index_or s 2 0 ≤ 57 → 48 ≤ slice_index_or s 3 0 → slice_index_or s 3 0 ≤ 57 → 48 ≤ slice_index_or s 4 0 → slice_index_or s 4 0 ≤ 57
@@ -128,12 +125,3 @@ pub five_word : (s : List ℕ) → 5 ≤ length s → 49 ≤ slice_index_or s 0 
 five_word s long la ha lb hb lc hc ld hd le he end =
     sym (ap (λ (l : List ℕ). rest_of (read_word l)) (front_five s long)
     ∙ five_listed (slice_index_or s 0 0) (slice_index_or s 1 0) (slice_index_or s 2 0) (slice_index_or s 3 0) (slice_index_or s 4 0) (behind_five s) la ha lb hb lc hc ld hd le he end)
-
-pub five_known : (s : List ℕ) → 5 ≤ length s → 49 ≤ slice_index_or s 0 0 → slice_index_or s 0 0 ≤ 57 → 48 ≤ slice_index_or s 1 0 → slice_index_or s 1 0 ≤ 57
-    → 48 ≤ slice_index_or s 2 0 → slice_index_or s 2 0 ≤ 57 → 48 ≤ slice_index_or s 3 0 → slice_index_or s 3 0 ≤ 57 → 48 ≤ slice_index_or s 4 0 → slice_index_or s 4 0 ≤ 57
-    → digit_first (behind_five s) ≡ false
-    → some (10 * (10 * (10 * (10 * (slice_index_or s 0 0 - 48) + (slice_index_or s 1 0 - 48)) + (slice_index_or s 2 0 - 48)) + (slice_index_or s 3 0 - 48)) + (slice_index_or s 4 0 - 48), behind_five s)
-    ≡ read_word s
-five_known s long la ha lb hb lc hc ld hd le he end =
-    sym (ap read_word (front_five s long)
-    ∙ five_is (slice_index_or s 0 0) (slice_index_or s 1 0) (slice_index_or s 2 0) (slice_index_or s 3 0) (slice_index_or s 4 0) (behind_five s) la ha lb hb lc hc ld hd le he end)

@@ -48,32 +48,9 @@ fn read_digits(first: u8, s: &[u8]) -> Option<(u32, &[u8])>
     Some((n as u32, left))
 }
 
-// A whole number that is known to stand there: only its end is looked for. Most numbers of a long order have five digits.
-pub fn known_word(s: &[u8]) -> (u32, &[u8])
-    requires { IsRead (read_word s.now) }
-    ensures { read_of (Some result) ≡ read_word s.now }
-{
-    if let [_, _, _, _, _, left @ ..] = s
-        && !digit_first(left)
-        && let [
-            a @ b'1'..=b'9',
-            b @ b'0'..=b'9',
-            c @ b'0'..=b'9',
-            d @ b'0'..=b'9',
-            e @ b'0'..=b'9',
-            ..
-        ] = s
-    {
-        let two = 10 * u32::from(*a - b'0') + u32::from(*b - b'0');
-        let four = 10 * (10 * two + u32::from(*c - b'0')) + u32::from(*d - b'0');
-        return (10 * four + u32::from(*e - b'0'), left);
-    }
-    known_any(s)
-}
-
-// The same, of any length.
+// A whole number that is known to stand there: only its end is looked for.
 #[tactic(auto, unfolding(crate::specs::Reader::read_word, crate::specs::Reader::read_whole, crate::specs::Grammar::is_digit))]
-fn known_any(s: &[u8]) -> (u32, &[u8])
+pub fn known_word(s: &[u8]) -> (u32, &[u8])
     requires { IsRead (read_word s.now) }
     ensures { read_of (Some result) ≡ read_word s.now }
 {
