@@ -1,13 +1,13 @@
 // Entries of lent buffers. Every buffer is filled with 99 before it is lent.
 ghost use Rattle.std.specs.Prelude.{◌≡◌, ◌%◌, length, get_or};
 
-use crate::printing::print_all;
+use crate::printing::print_numbers;
 use std::io;
 use std::io::Stdout;
 
 // Prints the first `shown` entries.
 pub fn print_first(stdout: Stdout, entries: &[u32], shown: usize) -> io::Result<()> {
-    print_all(stdout, &entries[..shown.min(entries.len())])
+    print_numbers(stdout, &entries[..shown.min(entries.len())])
 }
 
 // How many entries from a place on are no longer as lent.

@@ -3,7 +3,7 @@ ghost use Rattle.std.specs.Prelude.{◌≡◌, length};
 
 use crate::earlier::lay;
 use crate::input::large_buffer;
-use crate::printing::{end_line, print};
+use crate::printing::{end_line, print_number};
 use crate::reading::Reader;
 use counting::buffer::filled;
 use counting::refusal::{Refusal, refusal_of};
@@ -38,12 +38,12 @@ pub fn record(
     words: &mut [u64],
 ) -> io::Result<Recorded> {
     let begun = begin(reader, block_size, low_first, words);
-    print(stdout, refusal_of(&begun))?;
+    print_number(stdout, refusal_of(&begun))?;
     let mut sampler = begun.unwrap_or(no_sampler());
     for _ in 0..reader.number() {
         sampler = feed_one(stdout, reader, sampler, words)?;
     }
-    print(stdout, u8::from(sampler.head.low_first))?;
+    print_number(stdout, u8::from(sampler.head.low_first))?;
     end_line(stdout)?;
     Ok(Recorded {
         begun: begun.map(|_| ()),
@@ -95,10 +95,10 @@ fn feed_one(
     let piece = &mut space[..count];
     reader.fill(piece, u8::MAX);
     let fed = feed(sampler, words, board, piece);
-    print(stdout, refusal_of(&fed))?;
+    print_number(stdout, refusal_of(&fed))?;
     let next = fed.unwrap_or(sampler);
-    print(stdout, next.head.blocks)?;
-    print(stdout, pending(next.head, board))?;
+    print_number(stdout, next.head.blocks)?;
+    print_number(stdout, pending(next.head, board))?;
     Ok(next)
 }
 

@@ -1,5 +1,5 @@
-// What the programs that replay stored answers share: standard input, whole decimal numbers, read from a text and printed, doubles and lent entries printed,
-// and recordings of boards fed in pieces.
+// What the programs that replay stored answers share: standard input, whole decimal numbers, read from a text and printed, doubles, lent entries and values of
+// any kind printed, and recordings of boards fed in pieces.
 #![tactic(auto)]
 
 pub mod earlier;

@@ -1,5 +1,5 @@
 // Doubles as bit patterns. A NaN's pattern is free, so every NaN is printed as the largest number, a pattern that no other double has.
-use crate::printing::print;
+use crate::printing::print_number;
 use std::io;
 use std::io::Stdout;
 
@@ -13,7 +13,7 @@ pub fn double(pattern: u64) -> f64 {
 }
 
 pub fn print_double(stdout: Stdout, x: f64) -> io::Result<()> {
-    print(
+    print_number(
         stdout,
         if x.is_nan() {
             u64::MAX

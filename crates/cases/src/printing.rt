@@ -1,9 +1,23 @@
-// Numbers to standard output. `print!` clears and copies about 1 KB a call, so the digits are laid here.
+// Values and numbers to standard output. The programs that replay stored answers print by `print_number`, since `print!` clears and copies about 1 KB a call.
+use std::fmt::Display;
 use std::io;
 use std::io::{ErrorKind, Print, Stdout};
 
+// The value's text and a space.
+pub fn print<N: Display + Drop>(stdout: Stdout, number: N) -> io::Result<()> {
+    print!(stdout; "{number} ")
+}
+
+// Each of the values.
+pub fn print_all<N: Display + Copy>(stdout: Stdout, numbers: &[N]) -> io::Result<()> {
+    for number in numbers {
+        print(stdout, *number)?;
+    }
+    Ok(())
+}
+
 // The number's decimal digits and a space, in one write. A number that no u64 holds is refused.
-pub fn print<N: TryInto<u64>>(stdout: Stdout, number: N) -> io::Result<()>
+pub fn print_number<N: TryInto<u64>>(stdout: Stdout, number: N) -> io::Result<()>
 where
     N::Error: Drop,
 {
@@ -22,12 +36,12 @@ where
 }
 
 // Each of the numbers.
-pub fn print_all<N: TryInto<u64> + Copy>(stdout: Stdout, numbers: &[N]) -> io::Result<()>
+pub fn print_numbers<N: TryInto<u64> + Copy>(stdout: Stdout, numbers: &[N]) -> io::Result<()>
 where
     N::Error: Drop,
 {
     for number in numbers {
-        print(stdout, *number)?;
+        print_number(stdout, *number)?;
     }
     Ok(())
 }

@@ -1,5 +1,5 @@
 // Cases of brackets: n, c, k, d and the number of lent entries, each 99. Answer: a line with the refusal and both ends, a line with every entry that was lent.
-use cases::printing::{end_line, print, print_all};
+use cases::printing::{end_line, print_number, print_numbers};
 use cases::reading::Reader;
 use chance::bracket::{Ends, bracket};
 use counting::buffer::filled;
@@ -22,11 +22,11 @@ fn replay_one(stdout: Stdout, reader: &mut Reader) -> io::Result<()> {
     let count = reader.at_most(scratch.len());
     let scratch = &mut scratch[..count];
     let bracketed = bracket(n, c, k, d, scratch);
-    print(stdout, refusal_of(&bracketed))?;
+    print_number(stdout, refusal_of(&bracketed))?;
     let ends = bracketed.unwrap_or(Ends { low: 0, high: 0 });
-    print(stdout, ends.low)?;
-    print(stdout, ends.high)?;
+    print_number(stdout, ends.low)?;
+    print_number(stdout, ends.high)?;
     end_line(stdout)?;
-    print_all(stdout, scratch)?;
+    print_numbers(stdout, scratch)?;
     end_line(stdout)
 }

@@ -3,7 +3,7 @@
 ghost use Rattle.std.specs.Prelude.{◌≤◌, length};
 
 use crate::fitting::in_block;
-use cases::printing::{end_line, print};
+use cases::printing::{end_line, print_number};
 use cases::reading::Reader;
 use counting::block::{bit_value_in_block, bits_block_eval};
 use std::io;
@@ -33,10 +33,10 @@ fn answer(stdout: Stdout, bits: &[u32], low_first: bool, block: &[u8]) -> io::Re
     requires { length bits.now ≤ 20 }
 {
     if !in_block(bits, block.len()) {
-        return print(stdout, 99);
+        return print_number(stdout, 99);
     }
     for bit in bits {
-        print(stdout, bit_value_in_block(*bit as usize, low_first, block))?;
+        print_number(stdout, bit_value_in_block(*bit as usize, low_first, block))?;
     }
-    print(stdout, bits_block_eval(bits, low_first, block))
+    print_number(stdout, bits_block_eval(bits, low_first, block))
 }

@@ -10,7 +10,7 @@ ghost use Rattle.counting_cases.specs.Fitting.{Countable};
 
 use crate::fitting::{countable, rows_in, within};
 use cases::feeding::{dirty, record};
-use cases::printing::{end_line, print, print_all};
+use cases::printing::{end_line, print_number, print_numbers};
 use cases::reading::Reader;
 use counting::block::bin_count;
 use counting::buffer::filled;
@@ -37,7 +37,7 @@ fn replay_one(stdout: Stdout, reader: &mut Reader) -> io::Result<()> {
     }
     let stride = words.len().checked_div(block_size).unwrap_or(0);
     let n = blocks(recorded.sampler.head);
-    print(stdout, n)?;
+    print_number(stdout, n)?;
     end_line(stdout)?;
     for b in 0..block_size {
         let from = b.saturating_mul(stride).min(words.len());
@@ -50,7 +50,7 @@ fn replay_one(stdout: Stdout, reader: &mut Reader) -> io::Result<()> {
 fn print_row(stdout: Stdout, words: &[u64], n: usize) -> io::Result<()> {
     let shown = n.min(words.len().saturating_mul(64));
     for start in (0..shown).step_by(64) {
-        print(stdout, lowest(words[start / 64], n - start))?;
+        print_number(stdout, lowest(words[start / 64], n - start))?;
     }
     end_line(stdout)
 }
@@ -87,7 +87,7 @@ fn count_one(
 // Prints 99999999 alone where the rows do not hold the bits or the stretch, or the bits cannot be counted here.
 fn print_counts(stdout: Stdout, bits: &[u32], words: &[u64], stretch: Stretch) -> io::Result<()> {
     if !rows_in(bits, words, stretch.stride) || !within(stretch) || !countable(bits) {
-        return print(stdout, 99999999);
+        return print_number(stdout, 99999999);
     }
     print_bins(stdout, bits, words, stretch)?;
     print_all_set(stdout, bits, words, stretch)
@@ -101,7 +101,7 @@ fn print_bins(stdout: Stdout, bits: &[u32], words: &[u64], stretch: Stretch) -> 
     let mut bins = filled::<u32, 1024>(0);
     let bins = &mut bins[..bin_count(bits.len())];
     multi_eval_neg(bits, words, stretch, bins);
-    print_all(stdout, bins)
+    print_numbers(stdout, bins)
 }
 
 // The bin of all ones by the other call: the last bit goes on from the others.
@@ -114,5 +114,5 @@ fn print_all_set(stdout: Stdout, bits: &[u32], words: &[u64], stretch: Stretch) 
     let last = bits.len() - 1;
     let next = bits[last] as usize;
     multi_eval(&bits[..last], next, words, stretch, &mut counts);
-    print(stdout, counts[0])
+    print_number(stdout, counts[0])
 }

@@ -2,7 +2,7 @@
 // Answer: a line with the refusal and the finding's numbers, B, the width, the division, the pattern of z, 20 bits and low_first as
 // 0 or 1; one with the order after it, and one with the scratch.
 use cases::patterns::print_double;
-use cases::printing::{end_line, print, print_all};
+use cases::printing::{end_line, print_number, print_numbers};
 use cases::reading::Reader;
 use counting::buffer::filled;
 use counting::refusal::refusal_of;
@@ -29,21 +29,21 @@ fn replay_one(stdout: Stdout, reader: &mut Reader) -> io::Result<()> {
     let count = reader.at_most(scratch.len());
     let scratch = &mut scratch[..count];
     let reading = read_finding(given, order, scratch);
-    print(stdout, refusal_of(&reading))?;
+    print_number(stdout, refusal_of(&reading))?;
     print_finding(stdout, reading.unwrap_or(no_finding()))?;
     end_line(stdout)?;
-    print_all(stdout, order)?;
+    print_numbers(stdout, order)?;
     end_line(stdout)?;
-    print_all(stdout, scratch)?;
+    print_numbers(stdout, scratch)?;
     end_line(stdout)
 }
 
 // Kept: one for all programs would have the crate `cases`, and with it each program, stand on `searching`, which is no plainer.
 fn print_finding(stdout: Stdout, finding: Finding) -> io::Result<()> {
-    print(stdout, finding.block_size)?;
-    print(stdout, finding.width)?;
-    print(stdout, finding.division)?;
+    print_number(stdout, finding.block_size)?;
+    print_number(stdout, finding.width)?;
+    print_number(stdout, finding.division)?;
     print_double(stdout, finding.z)?;
-    print_all(stdout, &finding.bits)?;
-    print(stdout, u8::from(finding.low_first))
+    print_numbers(stdout, &finding.bits)?;
+    print_number(stdout, u8::from(finding.low_first))
 }

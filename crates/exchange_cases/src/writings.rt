@@ -2,7 +2,7 @@
 // where it is not 0; the order, its length first; the lengths of the scratch and of the output.
 // Answer: a line with the refusal and the length; one with the output after it, and one with the scratch.
 use cases::patterns::double;
-use cases::printing::{end_line, print, print_all};
+use cases::printing::{end_line, print_number, print_numbers};
 use cases::reading::Reader;
 use counting::buffer::filled;
 use counting::refusal::refusal_of;
@@ -30,12 +30,12 @@ fn replay_one(stdout: Stdout, reader: &mut Reader) -> io::Result<()> {
     let count = reader.at_most(out.len());
     let out = &mut out[..count];
     let written = write_finding(finding, order, scratch, out);
-    print(stdout, refusal_of(&written))?;
-    print(stdout, written.unwrap_or(0))?;
+    print_number(stdout, refusal_of(&written))?;
+    print_number(stdout, written.unwrap_or(0))?;
     end_line(stdout)?;
-    print_all(stdout, out)?;
+    print_numbers(stdout, out)?;
     end_line(stdout)?;
-    print_all(stdout, scratch)?;
+    print_numbers(stdout, scratch)?;
     end_line(stdout)
 }
 

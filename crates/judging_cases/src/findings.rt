@@ -4,7 +4,7 @@
 // pattern of z, or 0 where there is no sample; and one with the scratch after it. Every entry of a scratch is 99 before.
 use cases::input::large_buffer;
 use cases::patterns::{double, print_double};
-use cases::printing::{end_line, print, print_all};
+use cases::printing::{end_line, print_number, print_numbers};
 use cases::reading::Reader;
 use counting::buffer::filled;
 use counting::refusal::refusal_of;
@@ -49,9 +49,9 @@ fn read_finding(reader: &mut Reader) -> Finding {
 fn check(stdout: Stdout, finding: Finding, order: &[u32], lent: usize) -> io::Result<()> {
     let mut scratch = filled::<u32, 1280>(99);
     let scratch = &mut scratch[..lent.min(1280)];
-    print(stdout, refusal_of(&validate(finding, order, scratch)))?;
+    print_number(stdout, refusal_of(&validate(finding, order, scratch)))?;
     end_line(stdout)?;
-    print_all(stdout, scratch)?;
+    print_numbers(stdout, scratch)?;
     end_line(stdout)
 }
 
@@ -65,7 +65,7 @@ fn evaluate(
     let mut scratch = filled::<u32, 1280>(99);
     let scratch = &mut scratch[..lent.min(1280)];
     let evaluated = evaluate_histogram(finding, order, raw, scratch);
-    print(stdout, refusal_of(&evaluated))?;
+    print_number(stdout, refusal_of(&evaluated))?;
     print_evaluated(
         stdout,
         evaluated.unwrap_or(Evaluated {
@@ -73,18 +73,18 @@ fn evaluate(
             score: Score::NoSample,
         }),
     )?;
-    print_all(stdout, scratch)?;
+    print_numbers(stdout, scratch)?;
     end_line(stdout)
 }
 
 fn print_evaluated(stdout: Stdout, evaluated: Evaluated) -> io::Result<()> {
-    print(stdout, evaluated.positive)?;
+    print_number(stdout, evaluated.positive)?;
     match evaluated.score {
         Score::Z(z) => {
-            print(stdout, 1)?;
+            print_number(stdout, 1)?;
             print_double(stdout, z)?;
         }
-        Score::NoSample => print(stdout, 0)?,
+        Score::NoSample => print_number(stdout, 0)?,
     }
     end_line(stdout)
 }

@@ -1,5 +1,5 @@
 // Cases of plans: B and a number of bytes. Answer: a line with the refusal and the number of pairs, one with the seven block sizes, one with the seven widths.
-use cases::printing::{end_line, print};
+use cases::printing::{end_line, print_number};
 use cases::reading::Reader;
 use counting::refusal::refusal_of;
 use judging::plan::{Plan, Planned, configurations};
@@ -14,7 +14,7 @@ pub fn replay(stdout: Stdout, reader: &mut Reader) -> io::Result<()> {
 fn replay_one(stdout: Stdout, reader: &mut Reader) -> io::Result<()> {
     let block_size = reader.size();
     let plan = configurations(block_size, reader.size());
-    print(stdout, refusal_of(&plan))?;
+    print_number(stdout, refusal_of(&plan))?;
     let plan = plan.unwrap_or(Plan {
         pairs: 0,
         sizes: [Planned {
@@ -22,14 +22,14 @@ fn replay_one(stdout: Stdout, reader: &mut Reader) -> io::Result<()> {
             width: 0,
         }; 7],
     });
-    print(stdout, plan.pairs)?;
+    print_number(stdout, plan.pairs)?;
     end_line(stdout)?;
     for pair in plan.sizes {
-        print(stdout, pair.block_size)?;
+        print_number(stdout, pair.block_size)?;
     }
     end_line(stdout)?;
     for pair in plan.sizes {
-        print(stdout, pair.width)?;
+        print_number(stdout, pair.width)?;
     }
     end_line(stdout)
 }

@@ -4,7 +4,7 @@
 
 use cases::entries::repeated;
 use cases::input::answer_input;
-use cases::printing::{end_line, print};
+use cases::printing::{end_line, print_number};
 use cases::reading::Reader;
 use counting::buffer::filled;
 use std::io;
@@ -43,7 +43,7 @@ fn replay_one(stdout: Stdout, reader: &mut Reader) -> io::Result<()> {
     for (i, byte) in input.iter_mut().enumerate() {
         *byte = byte_at(header, period, i);
     }
-    print(stdout, sheet::sheet::sheet(input, out))?;
+    print_number(stdout, sheet::sheet::sheet(input, out))?;
     end_line(stdout)?;
     stdout.write_all(out)?;
     end_line(stdout)

@@ -6,7 +6,7 @@
 use cases::entries::{changed, weighed};
 use cases::feeding::dirty;
 use cases::patterns::print_double;
-use cases::printing::{end_line, print, print_all};
+use cases::printing::{end_line, print_number, print_numbers};
 use cases::reading::Reader;
 use counting::buffer::filled;
 use counting::refusal::refusal_of;
@@ -81,7 +81,7 @@ fn answer(stdout: Stdout, case: Case, recording: &[u8], lengths: &[usize]) -> io
         bins,
         order,
     );
-    print(stdout, refusal_of(&replayed))?;
+    print_number(stdout, refusal_of(&replayed))?;
     let replayed = replayed.unwrap_or(Replayed {
         refused: 0,
         layered: false,
@@ -89,30 +89,30 @@ fn answer(stdout: Stdout, case: Case, recording: &[u8], lengths: &[usize]) -> io
         finding: no_finding(),
     });
     print_replayed(stdout, replayed)?;
-    print_all(stdout, words)?;
+    print_numbers(stdout, words)?;
     end_line(stdout)?;
-    print_all(stdout, bins)?;
+    print_numbers(stdout, bins)?;
     end_line(stdout)?;
-    print_all(stdout, order)?;
+    print_numbers(stdout, order)?;
     end_line(stdout)?;
     let kept = kept_entries(replayed.layered, case.block_size, case.k);
-    print(stdout, changed(store, kept))?;
-    print(stdout, weighed(store, kept))?;
+    print_number(stdout, changed(store, kept))?;
+    print_number(stdout, weighed(store, kept))?;
     end_line(stdout)
 }
 
 // Kept: one for the finding of all programs would have the crate `cases`, and with it each program, stand on `searching`, which is no plainer.
 fn print_replayed(stdout: Stdout, replayed: Replayed) -> io::Result<()> {
     let finding = replayed.finding;
-    print(stdout, replayed.refused)?;
-    print(stdout, u8::from(replayed.layered))?;
-    print(stdout, u8::from(replayed.agree))?;
-    print(stdout, finding.block_size)?;
-    print(stdout, finding.width)?;
-    print_all(stdout, &finding.bits)?;
-    print(stdout, finding.division)?;
+    print_number(stdout, replayed.refused)?;
+    print_number(stdout, u8::from(replayed.layered))?;
+    print_number(stdout, u8::from(replayed.agree))?;
+    print_number(stdout, finding.block_size)?;
+    print_number(stdout, finding.width)?;
+    print_numbers(stdout, &finding.bits)?;
+    print_number(stdout, finding.division)?;
     print_double(stdout, finding.z)?;
-    print(stdout, u8::from(finding.low_first))?;
+    print_number(stdout, u8::from(finding.low_first))?;
     end_line(stdout)
 }
 

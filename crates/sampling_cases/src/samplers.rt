@@ -3,7 +3,7 @@
 // Answer: the line of `cases::feeding`; a line with the last sampler's numbers: B, the words, n, the bit order, the lengths of the boards' unfinished bytes; for
 // each board a line with its unfinished bytes, and how many of its other places are not 0; a line with all words.
 use cases::feeding::{dirty, pending, record};
-use cases::printing::{end_line, print, print_all};
+use cases::printing::{end_line, print_number, print_numbers};
 use cases::reading::Reader;
 use sampling::sampler::Head;
 use std::io;
@@ -26,23 +26,23 @@ fn replay_one(stdout: Stdout, reader: &mut Reader) -> io::Result<()> {
     for (board, bytes) in recorded.sampler.unfinished.chunks(512).enumerate() {
         print_board(stdout, bytes, pending(head, board))?;
     }
-    print_all(stdout, words)?;
+    print_numbers(stdout, words)?;
     end_line(stdout)
 }
 
 fn print_head(stdout: Stdout, head: Head) -> io::Result<()> {
-    print(stdout, head.block_size)?;
-    print(stdout, head.words)?;
-    print(stdout, head.blocks)?;
-    print(stdout, u8::from(head.low_first))?;
-    print_all(stdout, &head.lengths)?;
+    print_number(stdout, head.block_size)?;
+    print_number(stdout, head.words)?;
+    print_number(stdout, head.blocks)?;
+    print_number(stdout, u8::from(head.low_first))?;
+    print_numbers(stdout, &head.lengths)?;
     end_line(stdout)
 }
 
 // The board's unfinished bytes, and how many behind them are not 0.
 fn print_board(stdout: Stdout, bytes: &[u8], pending: usize) -> io::Result<()> {
     let (unfinished, others) = bytes.split_at(pending.min(bytes.len()));
-    print_all(stdout, unfinished)?;
-    print(stdout, others.iter().filter(|byte| **byte != 0).count())?;
+    print_numbers(stdout, unfinished)?;
+    print_number(stdout, others.iter().filter(|byte| **byte != 0).count())?;
     end_line(stdout)
 }

@@ -4,7 +4,7 @@ ghost use Rattle.std.specs.Prelude.{◌≡◌, ◌^◌, ◌≤◌, IfSome, lengt
 ghost use Rattle.counting.specs.Sample.{total};
 
 use cases::patterns::print_double;
-use cases::printing::{end_line, print, print_all};
+use cases::printing::{end_line, print_number, print_numbers};
 use cases::reading::Reader;
 use counting::block::bin_count;
 use counting::buffer::filled;
@@ -49,15 +49,15 @@ fn answer(
     requires { (k ≤ 12) × (length bins.now ≡ 2 ^ k) × (2 ^ k ≤ length order.old) × (length roots.old ≤ 4096) }
 {
     let Some(n) = blocks(bins) else {
-        print(stdout, 99999999)?;
+        print_number(stdout, 99999999)?;
         return end_line(stdout);
     };
     fill_roots(roots, n, k);
     let ranking = from_bins(bins, order, n, k, roots);
-    print(stdout, ranking.division)?;
+    print_number(stdout, ranking.division)?;
     print_double(stdout, ranking.z)?;
     end_line(stdout)?;
-    print_all(stdout, order)?;
+    print_numbers(stdout, order)?;
     end_line(stdout)
 }
 

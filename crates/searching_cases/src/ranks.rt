@@ -1,5 +1,5 @@
 // Cases of ranks: B, k and 20 bits, of which those past k mean nothing. Answer: the refusal and the rank.
-use cases::printing::{end_line, print};
+use cases::printing::{end_line, print_number};
 use cases::reading::Reader;
 use counting::refusal::refusal_of;
 use std::io;
@@ -15,7 +15,7 @@ fn replay_one(stdout: Stdout, reader: &mut Reader) -> io::Result<()> {
     let block_size = reader.size();
     let width = reader.size();
     let ranked = compute_index(block_size, width, reader.bits());
-    print(stdout, refusal_of(&ranked))?;
-    print(stdout, ranked.unwrap_or(0))?;
+    print_number(stdout, refusal_of(&ranked))?;
+    print_number(stdout, ranked.unwrap_or(0))?;
     end_line(stdout)
 }

@@ -8,7 +8,7 @@
 use cases::entries::{changed, print_first, weighed};
 use cases::feeding::{dirty, record};
 use cases::patterns::print_double;
-use cases::printing::{end_line, print, print_all};
+use cases::printing::{end_line, print_number, print_numbers};
 use cases::reading::Reader;
 use counting::block::bin_count;
 use counting::buffer::filled;
@@ -102,8 +102,8 @@ fn lend(stdout: Stdout, search: Search, words: &[u64], entries: usize) -> io::Re
         search.k,
         store.len(),
     );
-    print(stdout, changed(store, kept))?;
-    print(stdout, weighed(store, kept))?;
+    print_number(stdout, changed(store, kept))?;
+    print_number(stdout, weighed(store, kept))?;
     end_line(stdout)
 }
 
@@ -130,20 +130,20 @@ fn print_answer(
     end_line(stdout)?;
     print_first(stdout, order, shown)?;
     end_line(stdout)?;
-    print(stdout, changed(bins, shown))?;
-    print(stdout, changed(order, shown))
+    print_number(stdout, changed(bins, shown))?;
+    print_number(stdout, changed(order, shown))
 }
 
 // Kept: one for all programs would have the crate `cases`, and with it each program, stand on `searching`, which is no plainer.
 fn print_searched(stdout: Stdout, searched: Result<Finding, Refusal>) -> io::Result<()> {
-    print(stdout, refusal_of(&searched))?;
+    print_number(stdout, refusal_of(&searched))?;
     let finding = searched.unwrap_or(no_finding());
-    print(stdout, finding.block_size)?;
-    print(stdout, finding.width)?;
-    print_all(stdout, &finding.bits)?;
-    print(stdout, finding.division)?;
+    print_number(stdout, finding.block_size)?;
+    print_number(stdout, finding.width)?;
+    print_numbers(stdout, &finding.bits)?;
+    print_number(stdout, finding.division)?;
     print_double(stdout, finding.z)?;
-    print(stdout, u8::from(finding.low_first))?;
+    print_number(stdout, u8::from(finding.low_first))?;
     end_line(stdout)
 }
 

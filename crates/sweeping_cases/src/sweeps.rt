@@ -7,7 +7,7 @@ use crate::recordings::record;
 use cases::entries::changed;
 use cases::input::large_buffer;
 use cases::patterns::print_double;
-use cases::printing::{end_line, print, print_all};
+use cases::printing::{end_line, print_number, print_numbers};
 use cases::reading::Reader;
 use counting::buffer::filled;
 use counting::refusal::refusal_of;
@@ -90,20 +90,20 @@ fn answer(stdout: Stdout, case: Case, raw: &[u8]) -> io::Result<()> {
         scratch,
         entries,
     );
-    print(stdout, refusal_of(&swept))?;
+    print_number(stdout, refusal_of(&swept))?;
     // Where there is no refusal the buffers are free, and 0 stands for them.
     if let Ok(swept) = swept {
         print_swept(stdout, swept)?;
-        print(stdout, 0)?;
+        print_number(stdout, 0)?;
         return end_line(stdout);
     }
     print_swept(stdout, nothing_swept())?;
-    print(stdout, changed(words, 0))?;
-    print(stdout, changed(store, 0))?;
-    print(stdout, changed(bins, 0))?;
-    print(stdout, changed(order, 0))?;
-    print(stdout, changed(scratch, 0))?;
-    print(stdout, changed(entries, 0))?;
+    print_number(stdout, changed(words, 0))?;
+    print_number(stdout, changed(store, 0))?;
+    print_number(stdout, changed(bins, 0))?;
+    print_number(stdout, changed(order, 0))?;
+    print_number(stdout, changed(scratch, 0))?;
+    print_number(stdout, changed(entries, 0))?;
     end_line(stdout)
 }
 
@@ -135,8 +135,8 @@ fn nothing_swept() -> Swept {
 }
 
 fn print_swept(stdout: Stdout, swept: Swept) -> io::Result<()> {
-    print(stdout, swept.verdict as u8)?;
-    print(stdout, swept.tested)?;
+    print_number(stdout, swept.verdict as u8)?;
+    print_number(stdout, swept.tested)?;
     end_line(stdout)?;
     print_tested(stdout, swept.best)?;
     print_tested(stdout, swept.last)
@@ -145,15 +145,15 @@ fn print_swept(stdout: Stdout, swept: Swept) -> io::Result<()> {
 // Kept: one for the finding of all programs would have the crate `cases`, and with it each program, stand on `searching`, which is no plainer.
 fn print_tested(stdout: Stdout, tested: Tested) -> io::Result<()> {
     let finding = tested.finding;
-    print(stdout, finding.block_size)?;
-    print(stdout, finding.width)?;
-    print(stdout, finding.division)?;
+    print_number(stdout, finding.block_size)?;
+    print_number(stdout, finding.width)?;
+    print_number(stdout, finding.division)?;
     print_double(stdout, finding.z)?;
-    print_all(stdout, &finding.bits)?;
-    print(stdout, u8::from(finding.low_first))?;
-    print(stdout, tested.blocks)?;
-    print(stdout, tested.positive)?;
-    print(stdout, tested.low)?;
-    print(stdout, tested.high)?;
+    print_numbers(stdout, &finding.bits)?;
+    print_number(stdout, u8::from(finding.low_first))?;
+    print_number(stdout, tested.blocks)?;
+    print_number(stdout, tested.positive)?;
+    print_number(stdout, tested.low)?;
+    print_number(stdout, tested.high)?;
     end_line(stdout)
 }

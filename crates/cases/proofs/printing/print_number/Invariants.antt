@@ -1,6 +1,6 @@
--- `printing::print` is safe: what it writes begins in the array.
+-- `printing::print_number` is safe: what it writes begins in the array.
 use Rattle.std.proofs.Common.{◌≤◌}
-use Rattle.cases.proofs.printing.print.Given as goal
+use Rattle.cases.proofs.printing.print_number.Given as goal
 
 abbrev pub invariant-loop-place : goal.invariant-loop-place
 invariant-loop-place g l = l.start ≤ 20
